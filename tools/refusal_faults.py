@@ -3,7 +3,8 @@
 A fault is a function of a design and one of its places; it changes items there or puts more in. What the text is
 refused as is the reading's to say.
 """
-from refusal_plants import ZERO_COUNT, loop, put_in, signal, use, wide, zero
+from refusal_plants import (ZERO_COUNT, given_without_value, later_around, loop, many_blocks, put_in, signal, use, wide,
+                            zero)
 from refusal_trees import (Node, always, assign, binary, block, bounds, clocked, clone, concat, decl, dname, gblock,
                            genfor, genif, index, instance, name, num, part, pdef, plus, put, repl, target, unary, conn)
 
@@ -233,7 +234,7 @@ def clock_fault(design, place):
 
 def not_constant(design, place):
     rng, word, other = design.rng, design.fresh("k"), name(signal(design, place))
-    form = rng.randrange(10)
+    form = rng.randrange(12)
     if form == 0:
         use(design, place, binary(rng.choice("/%"), *rng.choice([(other, num(2)), (num(2), other), (other, num(0))])))
     elif form == 1:
@@ -258,6 +259,10 @@ def not_constant(design, place):
         put_in(design, place, genif(other, gblock()))
     elif form == 8 and place.all_constants():
         use(design, place, name(rng.choice(place.all_constants()), index(other)))
+    elif form == 9:
+        later_around(design, place)
+    elif form == 10:
+        given_without_value(design, place)
     else:
         use(design, place, rng.choice([repl(other, num(1, 1)), name(other.word, plus(num(0), clone(other)))]))
 
@@ -320,6 +325,8 @@ def too_large(design, place):
     terms = [binary("+", num(1), num(2)) for _ in range(200)]
     value = concat(*(Node("sys", op="$unsigned", inner=each) for each in terms[:3]))
     items = [decl("wire", [dname(design.fresh("w"), clone(value))]) for _ in range(80)]
+    if design.chance(0.5):
+        items = many_blocks(design) + items[:6]
     last = Node("module", word=word, params=[], ports=[], items=items)
     design.source.modules.append(last)
     for _ in range(14):

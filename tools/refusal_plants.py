@@ -1,6 +1,6 @@
 """What the faults of compare-refusals.py are made of: refused expressions, and ways to put them into a design."""
 from refusal_trees import (PARTS, Node, always, assign, binary, bounds, concat, cond, conn, decl, dname, gblock, genfor,
-                           name, num, put, repl, target)
+                           genif, instance, name, num, pdef, put, repl, target)
 
 EXPRS = {"num", "name", "paren", "unary", "binary", "cond", "concat", "repl", "sys"}
 ZERO_COUNT = repl(num(0), num(1, 1))
@@ -103,3 +103,58 @@ def loop(design, place, start=None, test=None, step=None, items=(), word=None, d
     item = genfor(word, start, test, step, gblock(*items, label=label))
     put_in(design, place, *([Node("genvar", words=[word])] if declared else []), item)
     return item
+
+
+def local(word, value, range=None):
+    return Node("param", word="localparam", defs=[pdef(word, value, range)])
+
+
+def later_around(design, place):
+    """A parameter two blocks deep that uses a later one of a scope around, which the block between may hide."""
+    rng, word = design.rng, design.fresh("k")
+    inner = rng.choice([local(design.fresh("k"), binary("+", name(word), num(1))),
+                        local(design.fresh("k"), num(1), bounds(name(word), num(0)))])
+    deep = genif(num(1), gblock(inner, label=design.fresh("b")))
+    own = rng.choice([[], [], [local(word, num(2))], [decl("wire", [dname(word, num(0))])]])
+    between = own + [deep] if design.chance(0.5) else [deep] + own
+    late = local(word, num(1))
+    if design.chance(0.5):
+        both = [genif(num(1), gblock(*between)), late]
+        put_in(design, place, *(both if design.chance(0.8) else both[::-1]))
+    else:
+        loop(design, place, items=between)
+        place.items.append(late)
+
+
+def given_without_value(design, place):
+    """A parameter that is given what has no value, since its own declaration is refused, perhaps through a module."""
+    rng, word = design.rng, design.fresh("k")
+    use_of = rng.choice([
+        [genif(name("P"), gblock(), gblock(instance(design.fresh("absent"), design.fresh("u"), [])))],
+        [decl("wire", [design.fresh("w")], bounds(name("P"), num(0)))],
+        [local(design.fresh("k"), binary("/", num(4), name("P")))]])
+    last = Node("module", word=design.fresh("m"), params=[], ports=[], items=[
+        Node("param", word="parameter", defs=[pdef("P", num(1))])] + use_of)
+    design.source.modules.append(last)
+    if design.chance(0.4):
+        last = Node("module", word=design.fresh("m"), params=[], ports=[], items=[
+            Node("param", word="parameter", defs=[pdef("P", num(0))]),
+            instance(last.word, design.fresh("u"), [], [conn("P", name("P"))])])
+        design.source.modules.append(last)
+    value = rng.choice([name(word), binary("+", name(word), num(1))])
+    both = [instance(last.word, design.fresh("u"), [], [conn("P", value)]), local(word, rng.choice([
+        name("nosuch"), binary("/", num(1), num(0)), num(2)]))]
+    put_in(design, place, *(both if design.chance(0.5) else both[::-1]))
+
+
+def many_blocks(design):
+    """Regions and blocks, which are nodes, in turns, in the branches of an `if` and in each other."""
+    rng, found = design.rng, []
+    for _ in range(10):
+        word = design.fresh("g")
+        nested = gblock(genif(num(rng.randint(0, 1)), gblock(), gblock(Node("genvar", words=["x", "y"]))), begin=False)
+        turns = genfor(word, num(0), binary("<", name(word), num(2)), binary("+", name(word), num(1)), rng.choice([
+            gblock(), gblock(genif(num(1), gblock()), begin=False), gblock(genif(num(0), gblock()))]))
+        parts = [Node("genvar", words=[word]), genif(num(rng.randint(0, 1)), gblock(), nested), turns]
+        found += [Node("region", items=parts)] if design.chance(0.6) else parts
+    return found

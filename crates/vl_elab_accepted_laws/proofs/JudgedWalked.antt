@@ -1,20 +1,28 @@
 -- The judged steps of a design in which none is refused are all steps of its walk.
 use Rattle.std.specs.Prelude.{◌≡◌, refl, ℕ, zero, suc, ◌+◌, List, [], ◌∷◌, ◌++◌, length, codes, ◌&&◌}
-use Rattle.std.specs.Prelude.{Bool, true, false, Option, Some, None, All, if◌then◌else◌}
-use Rattle.std.proofs.Common.{ap, sym, subst, arith}
+use Rattle.std.specs.Prelude.{Bool, true, false, Option, Some, None, is_none, All, if◌then◌else◌}
+use Rattle.std.proofs.Common.{ap, sym, ◌∙◌, subst, arith, true≢false}
+use Rattle.vl_tree.specs.declared.declaration.Parameter.{Parameter}
+use Rattle.vl_tree.specs.declared.part.Connection.{Connection}
 use Rattle.vl_tree.specs.declared.part.Instance.{Instance}
 use Rattle.vl_tree.specs.declared.part.LoopHead.{LoopHead}
 use Rattle.vl_tree.specs.declared.source.Module.{Module}
+use Rattle.vl_tree.specs.Expr.{Expr}
+use Rattle.vl_tree.specs.ExprWellFormed as expr
 use Rattle.vl_tree.specs.Item.{Item, Items, Block, declaration, integer, genvar, parameter, assign, always, initial}
 use Rattle.vl_tree.specs.Item.{instance, generate, for_loop, if_only, if_else, no_items, more_items, begin, region}
 use Rattle.vl_tree.specs.Item.{single, items}
-use Rattle.vl_tree.specs.WellFormed.{AreWellFormed, IsBlock, IsModule, IsWellFormed}
+use Rattle.vl_tree.specs.WellFormed.{AreOverrides, AreWellFormed, IsBlock, IsConnection, IsModule, IsWellFormed}
 use Rattle.vl_size.specs.declared.decl.Class.TheVariants as class
 use Rattle.vl_size.specs.Size.{is_true}
 use Rattle.vl_mean.specs.declared.const_number.Const.{Const}
+use Rattle.vl_mean.specs.Cells.{contains_name}
 use Rattle.vl_mean.specs.Constants.{constant_operand}
 use Rattle.vl_mean.specs.Declarations.{constructs, names_of, is_if, label_of, block_name, ports_of}
+use Rattle.vl_mean.specs.Runs.{Each}
 use Rattle.vl_mean.specs.Scopes.{constant_in}
+use Rattle.vl_mean.specs.Walk.{block_step, single_number, single_place, class_by_connection, connections_of, has_any}
+use Rattle.vl_mean.specs.Walk.{override_of, override_steps, overrides_of}
 use Rattle.vl_mean.specs.Walk.{Place, Use, Step, Unfolding, item, with_earlier, module_named, module_parameters}
 use Rattle.vl_mean.specs.Walk.{module_place, parameter_names, port_names, written_ports}
 use Rattle.vl_mean.specs.Walk.{header_steps, port_steps, use_of}
@@ -24,10 +32,15 @@ use Rattle.vl_mean.specs.Walk.{walk, top_input, all_valued, item_walk, items_wal
 use Rattle.vl_mean.specs.Walk.{turn_limit}
 use Rattle.vl_mean.specs.Walk.{module_walk}
 use Rattle.vl_mean_flat.proofs.EachOf.{front, back}
-use Rattle.vl_elab_spec.specs.Items.{is_valued}
+use Rattle.vl_elab_spec.specs.declared.elab_fault.ElabFault.TheVariants as fault
+use Rattle.vl_elab_spec.specs.Expressions.{refused_if}
+use Rattle.vl_elab_spec.specs.Items.{given_parameter, inner_meanings, is_valued, override_value}
+use Rattle.vl_elab_spec.specs.Meanings.{meanings_at}
 use Rattle.vl_elab_spec.specs.Refused.{first_refused, judged_walk}
+use Rattle.vl_elab_spec.specs.Within.{front_steps}
+use Rattle.vl_elab_accepted_laws.specs.Sized.{AreSound}
 use Rattle.vl_elab_accepted_laws.specs.Unrefused.{NoStepRefused}
-use Rattle.vl_elab_accepted_laws.proofs.Fresh.{IsFine, none-back}
+use Rattle.vl_elab_accepted_laws.proofs.Fresh.{IsFine, NoneOf, none-back, none-front, not-refused}
 use Rattle.vl_elab_accepted_laws.proofs.Items.{found-module}
 use Rattle.vl_elab_accepted_laws.proofs.Loops.{AreFine}
 use Rattle.vl_elab_accepted_laws.proofs.NoneRefused.{none-refused}
@@ -36,6 +49,8 @@ use Rattle.vl_elab_accepted_laws.proofs.Parameters.{ItemsFine}
 use Rattle.vl_elab_accepted_laws.proofs.Places.{IsSoundPlace, IsSoundScope, turn_sound, block_sound}
 use Rattle.vl_elab_accepted_laws.proofs.Places.{IsSoundModule, module_ports_place, module_items_place}
 use Rattle.vl_elab_accepted_laws.proofs.Places.{module_sound}
+use Rattle.vl_elab_accepted_laws.proofs.Plain.{all-each}
+use Rattle.vl_elab_accepted_laws.proofs.Reached.{AllValued, all_valued_of}
 
 -- the place of a step further on in its scope
 further : (at : Place) (names : List (List ℕ)) → IsSoundScope at → IsSoundScope (with_earlier at names)
@@ -92,8 +107,56 @@ module _ (ms : List Module) where
   -- modules within modules
   abbrev Unfolds : Unfolding → Unfolding → Type 0
   Unfolds judged plain =
-      (m : Module) (u : Use) (path : List ℕ) (modules : List (List ℕ)) (before : List Step) → IsModule m
-      → Same (judged m u path modules before) (plain m u path modules before)
+      (m : Module) (u v : Use) (path : List ℕ) (modules : List (List ℕ)) (before others : List Step) → IsModule m
+      → (AreFine ms before → (u ≡ v) × (before ≡ others)) → AllValued v.overrides
+      → Same (judged m u path modules before) (plain m v path modules others)
+
+  -- what is given to a module has values where it isn't refused
+  given_valued : (at : Place) (m : Module) (u : Use) (given : List (List ℕ)) (xs : List Connection)
+      → AreSound (meanings_at at) → Each IsConnection xs → AreFine ms (override_steps at m u given xs)
+      → overrides_of (is_valued at) at.scopes xs ≡ overrides_of has_any at.scopes xs
+  given_valued at m u given [] s w h = refl
+  given_valued at m u given (x ∷ xs) s w h =
+      λ i. one x.value w.0.1 named (none-back _ _ h.0) i ++ given_valued at m u (given ++ x.port ∷ []) xs s w.1 h.1 i
+    where
+      named : is_none (given_parameter m x.port) ≡ false
+      named =
+          not-refused (is_none (given_parameter m x.port)) (fault.Param x.port x.pos)
+          (none-back (refused_if (contains_name given x.port) (fault.Twice x.port x.pos))
+          (refused_if (is_none (given_parameter m x.port)) (fault.Param x.port x.pos))
+          (none-front (refused_if (contains_name given x.port) (fault.Twice x.port x.pos)
+          ++ refused_if (is_none (given_parameter m x.port)) (fault.Param x.port x.pos))
+          (override_value (meanings_at at) (inner_meanings m u) (given_parameter m x.port) x.value) h.0))
+
+      has_one : (y : Option Parameter) (e : Expr) → expr.IsWellFormed e → is_none y ≡ false
+          → NoneOf (override_value (meanings_at at) (inner_meanings m u) y (Some e)) → is_valued at e ≡ true
+      has_one None e w n h = absurd (true≢false n)
+      has_one (Some y) e w n h = valued at _ e s w h
+
+      one : (o : Option Expr) → expr.IsValue o → is_none (given_parameter m x.port) ≡ false
+          → NoneOf (override_value (meanings_at at) (inner_meanings m u) (given_parameter m x.port) o)
+          → override_of (is_valued at) at.scopes x.port o ≡ override_of has_any at.scopes x.port o
+      one None w n h = refl
+      one (Some e) w n h =
+          ap (λ b. record { name = x.port; operand = constant_operand (constant_in at.scopes) e; has_value = b } ∷ [])
+          (has_one (given_parameter m x.port) e w n h)
+
+  overrides_formed : (o : Option (List Connection)) → AreOverrides o → Each IsConnection (connections_of o)
+  overrides_formed None w = tt
+  overrides_formed (Some xs) w = all-each IsConnection xs w
+
+  same_use : (at : Place) (m : Module) (x : Instance) (path : List ℕ) → AreSound (meanings_at at)
+      → AreOverrides x.overrides → AreFine ms (front_steps at m (use_of (is_valued at) at.scopes x) path x)
+      → use_of (is_valued at) at.scopes x ≡ use_of has_any at.scopes x
+  same_use at m x path s w h =
+      let u : Use = use_of (is_valued at) at.scopes x in
+      let overrides : List Step = override_steps at m u [] (connections_of x.overrides) in
+      let fine : AreFine ms overrides = front (IsFine ms) overrides _ h in
+      λ i. record {
+        is_top = false;
+        overrides = given_valued at m u [] (connections_of x.overrides) s (overrides_formed x.overrides w) fine i;
+        input = class_by_connection at.scopes x.connections;
+      }
 
   found_same : (o : Option Module) (f g : Module → List Step) → ((m : Module) → o ≡ Some m → Same (f m) (g m))
       → Same (with_module o f) (with_module o g)
@@ -107,12 +170,18 @@ module _ (ms : List Module) where
     abbrev Walked : Item → Place → ℕ → List Step
     Walked x at n = item_walk all_valued ms plain x at n
 
-    instance_same : (at : Place) (x : Instance) → Same (instance_steps ms judged at x) (instance_steps ms plain at x)
-    instance_same at x =
-        let u : Use = use_of at.scopes x in
+    instance_same : (at : Place) (x : Instance) → IsSoundPlace at → AreOverrides x.overrides
+        → Same (instance_steps is_valued ms judged at x) (instance_steps all_valued ms plain at x)
+    instance_same at x h w =
+        let u : Use = use_of (is_valued at) at.scopes x in
+        let v : Use = use_of has_any at.scopes x in
         let inside : List ℕ = at.path ++ x.name ++ codes "." in
         found_same (module_named ms x.definition) _ _
-        (λ m e. unfolds m u inside at.modules _ (found-module ms x.definition m formed e))
+        (λ m e. unfolds m u v inside at.modules (front_steps at m u inside x) (front_steps at m v inside x)
+        (found-module ms x.definition m formed e)
+        (λ fine.
+        (same_use at m x inside h.sound w fine, ap (λ o. front_steps at m o inside x) (same_use at m x inside h.sound w fine)))
+        (all_valued_of at.scopes (connections_of x.overrides)))
 
     first_fine : (x : Item) (at : Place) (n : ℕ) → AreFine ms (Judged x at n) → IsFine ms (item at x)
     first_fine (declaration attrs p d) at n h = h.0
@@ -157,8 +226,8 @@ module _ (ms : List Module) where
       item_same (always attrs p event s) at n w h fine = refl
       item_same (initial attrs p s) at n w h fine = refl
       item_same (instance attrs p x) at n w h fine =
-          behind_same (item at (instance attrs p x)) (instance_steps ms judged at x) (instance_steps ms plain at x)
-          (instance_same at x) fine
+          behind_same (item at (instance attrs p x)) (instance_steps is_valued ms judged at x)
+          (instance_steps all_valued ms plain at x) (instance_same at x h.place w.1.1) fine
       item_same (generate attrs p mark) at n w h fine = refl
       item_same (for_loop attrs p head b) at n w h fine =
           let label : List ℕ = block_name at.names n (label_of b) in
@@ -205,39 +274,50 @@ module _ (ms : List Module) where
       turn_same : (b : Block) (at : Place) (path : List ℕ) → IsBlock b → IsSoundPlace at
           → Same (turn_walk is_valued ms judged b at path) (turn_walk all_valued ms plain b at path)
       turn_same (begin p label xs) at path w h fine =
-          items_same xs (block_place at path xs) 1 w.2
-          (block_sound ms at path xs h w.2 (items_fine xs (block_place at path xs) 1 fine)) fine
+          let inside : Place = block_place at path xs in
+          behind_same (block_step at (begin p label xs)) (items_walk is_valued ms judged xs inside 1)
+          (items_walk all_valued ms plain xs inside 1)
+          (λ k. items_same xs inside 1 w.2 (block_sound ms at path xs h w.2 (items_fine xs inside 1 k)) k) fine
       turn_same (region p xs) at path w h fine =
-          items_same xs (block_place at path xs) 1 w.1
-          (block_sound ms at path xs h w.1 (items_fine xs (block_place at path xs) 1 fine)) fine
+          let inside : Place = block_place at path xs in
+          behind_same (block_step at (region p xs)) (items_walk is_valued ms judged xs inside 1)
+          (items_walk all_valued ms plain xs inside 1)
+          (λ k. items_same xs inside 1 w.1 (block_sound ms at path xs h w.1 (items_fine xs inside 1 k)) k) fine
       turn_same (single x) at path w h fine =
           let inside : Place = block_place at path (more_items x no_items) in
-          item_same x inside 1 w.2
-          (block_sound ms at path (more_items x no_items) h (w.2, tt) (first_fine x inside 1 fine, tt)) fine
+          behind_same (block_step at (single x)) (Judged x inside 1) (Walked x inside 1)
+          (λ k. item_same x inside 1 w.2
+          (block_sound ms at path (more_items x no_items) h (w.2, tt) (first_fine x inside 1 k, tt)) k) fine
 
       block_same : (b : Block) (at : Place) (n : ℕ) → IsBlock b → IsSoundScope at
           → Same (block_walk is_valued ms judged b at n) (block_walk all_valued ms plain b at n)
       block_same (begin p label xs) at n w h fine =
           let path : List ℕ = block_path at (block_name at.names n label) in
-          items_same xs (block_place at path xs) 1 w.2
-          (block_sound ms at path xs h.place w.2 (items_fine xs (block_place at path xs) 1 fine)) fine
+          let inside : Place = block_place at path xs in
+          behind_same (block_step at (begin p label xs)) (items_walk is_valued ms judged xs inside 1)
+          (items_walk all_valued ms plain xs inside 1)
+          (λ k. items_same xs inside 1 w.2 (block_sound ms at path xs h.place w.2 (items_fine xs inside 1 k)) k) fine
       block_same (region p xs) at n w h fine =
           let path : List ℕ = block_path at (block_name at.names n None) in
-          items_same xs (block_place at path xs) 1 w.1
-          (block_sound ms at path xs h.place w.1 (items_fine xs (block_place at path xs) 1 fine)) fine
+          let inside : Place = block_place at path xs in
+          behind_same (block_step at (region p xs)) (items_walk is_valued ms judged xs inside 1)
+          (items_walk all_valued ms plain xs inside 1)
+          (λ k. items_same xs inside 1 w.1 (block_sound ms at path xs h.place w.1 (items_fine xs inside 1 k)) k) fine
       block_same (single x) at n w h fine =
           let path : List ℕ = block_path at (block_name at.names n None) in
           let inside : Place = block_place at path (more_items x no_items) in
-          single_same (is_if x) x at inside n (λ k. item_same x at n w.2 h k)
+          behind_same (block_step at (single x)) (Judged x (single_place at n x) (single_number n x))
+          (Walked x (single_place at n x) (single_number n x))
+          (single_same (is_if x) x at inside n (λ k. item_same x at n w.2 h k)
           (λ k. item_same x inside 1 w.2
-          (block_sound ms at path (more_items x no_items) h.place (w.2, tt) (first_fine x inside 1 k, tt)) k) fine
+          (block_sound ms at path (more_items x no_items) h.place (w.2, tt) (first_fine x inside 1 k, tt)) k)) fine
 
   module _ (formed : All IsModule ms) where
     unfolded_same : (n : ℕ)
         → Unfolds (λ m u path modules before. module_walk is_valued n ms m u path modules before)
         (λ m u path modules before. module_walk all_valued n ms m u path modules before)
-    unfolded_same zero m u path modules before w fine = refl
-    unfolded_same (suc n) m u path modules before w fine =
+    unfolded_same zero m u v path modules before others w same valued fine = refl
+    unfolded_same (suc n) m u v path modules before others w same valued fine =
         let at : Place = module_place m u path modules in
         let judged : Unfolding = λ m u path modules before. module_walk is_valued n ms m u path modules before in
         let plain : Unfolding = λ m u path modules before. module_walk all_valued n ms m u path modules before in
@@ -250,20 +330,26 @@ module _ (ms : List Module) where
         let fine_ports : AreFine ms ports = back (IsFine ms) (before ++ heads) ports first in
         let fine_heads : AreFine ms heads
         = back (IsFine ms) before heads (front (IsFine ms) (before ++ heads) ports first) in
+        let fine_before : AreFine ms before = front (IsFine ms) before heads (front (IsFine ms) (before ++ heads) ports first) in
+        let used : u ≡ v = (same fine_before).0 in
+        let fronts : before ≡ others = (same fine_before).1 in
         let x : IsSoundModule m u path modules
-        = module_sound ms m u path modules w fine_heads fine_ports
+        = module_sound ms m u path modules w (subst (λ (o : Use). AllValued o.overrides) (sym used) valued) fine_heads
+        fine_ports
         (items_fine formed judged plain (unfolded_same n) (items m.items) at_items 1 fine_items) in
         ap (λ l. before ++ heads ++ ports ++ l)
         (items_same formed judged plain (unfolded_same n) (items m.items) at_items 1 w.4
         (further at (parameter_names (module_parameters m) ++ port_names (ports_of m.ports)) x.place) fine_items)
+        ∙ (λ i. module_walk all_valued (suc n) ms m (used i) path modules (fronts i))
 
 -- where no judged step is refused, all steps of the walk are judged
 pub all_judged : (ms : List Module) (top : List ℕ) → All IsModule ms
     → first_refused ms (record { nodes = 0; names = 0 }) (judged_walk ms top) ≡ None → judged_walk ms top ≡ walk ms top
 all_judged ms top formed e =
     found_same ms (module_named ms top) _ _
-    (λ m k. unfolded_same ms formed (length ms) m (record { is_top = true; overrides = []; input = top_input }) [] [] []
-    (found-module ms top m formed k))
+    (λ m k.
+    let u : Use = record { is_top = true; overrides = []; input = top_input } in
+    unfolded_same ms formed (length ms) m u u [] [] [] [] (found-module ms top m formed k) (λ fine. (refl, refl)) tt)
     (none-refused ms (record { nodes = 0; names = 0 }) (judged_walk ms top) (omega arith) e).fine
 
 pub all_steps_judged : (ms : List Module) (top : List ℕ) → All IsModule ms

@@ -17,6 +17,7 @@ use Rattle.vl_elab_spec.specs.Meanings.{Meaning, undeclared, constant, loop_vari
 use Rattle.vl_elab_spec.specs.Meanings.{Names, is_undeclared, meaning_of, meaning_in, parameters_of}
 use Rattle.vl_elab_spec.specs.Meanings.{with_parameter_meanings, with_item_constants, port_meanings, items_meanings}
 use Rattle.vl_elab_spec.specs.Meanings.{scope_meanings, all_later, all_meanings}
+use Rattle.vl_elab_spec.specs.Meanings.{reached}
 use Rattle.vl_elab_scope.specs.Seen.{AreNamed, AllNamed}
 use Rattle.vl_elab_accepted_laws.specs.Sized.{IsSound}
 use Rattle.vl_elab_accepted_laws.specs.Means.{MeansIn}
@@ -141,10 +142,10 @@ none_of : (o : Option Const) → is_undeclared (of_constant o) ≡ true → o �
 none_of None h = refl
 none_of (Some c) h = absurd (true≢false (sym h))
 
-module _ (s : Scope) (outer : List Names) (c : Contents) where
+module _ (s : Scope) (beyond outer : List Names) (c : Contents) where
   abbrev pub own : Names
-  own = with_item_constants s outer c.overrides (all_later c)
-      (with_parameter_meanings s outer c.overrides (all_later c) [] c.parameters) c.items
+  own = with_item_constants s beyond c.overrides (all_later c)
+      (with_parameter_meanings s beyond c.overrides (all_later c) [] c.parameters) c.items
 
   abbrev pub around : List Names
   around = (own ++ all_later c) ∷ outer
@@ -157,16 +158,16 @@ module _ (s : Scope) (outer : List Names) (c : Contents) where
 
   pub own_parameters : AreParameters s own
   own_parameters =
-      item_constant_entries s outer (all_later c) c.overrides c.items
-      (with_parameter_meanings s outer c.overrides (all_later c) [] c.parameters)
-      (parameter_entries s outer (all_later c) c.overrides c.parameters [] (record { entries = tt; kinds = tt }))
+      item_constant_entries s beyond (all_later c) c.overrides c.items
+      (with_parameter_meanings s beyond c.overrides (all_later c) [] c.parameters)
+      (parameter_entries s beyond (all_later c) c.overrides c.parameters [] (record { entries = tt; kinds = tt }))
 
   pub own_list : names_in own ≡ own_names c
   own_list =
-      item_constant_list s outer (all_later c) c.overrides c.items
-      (with_parameter_meanings s outer c.overrides (all_later c) [] c.parameters)
+      item_constant_list s beyond (all_later c) c.overrides c.items
+      (with_parameter_meanings s beyond c.overrides (all_later c) [] c.parameters)
       ∙ ap (λ l. l ++ parameters_of c.items)
-      (parameter_list s outer (all_later c) c.overrides c.parameters [])
+      (parameter_list s beyond (all_later c) c.overrides c.parameters [])
 
   pub others : Each (IsEntry s) (ports ++ objects)
   others =
@@ -193,7 +194,7 @@ module _ (s : Scope) (outer : List Names) (c : Contents) where
   regroup [] ys zs ws = refl
   regroup (x ∷ xs) ys zs ws = ap (λ l. x ∷ l) (regroup xs ys zs ws)
 
-  pub steps_are : (text : List ℕ) → meaning_of (scope_meanings s outer c) text ≡ two_steps text
+  pub steps_are : (text : List ℕ) → meaning_of (scope_meanings s beyond outer c) text ≡ two_steps text
   steps_are text =
       ap (λ l. meaning_of l text) (regroup own ports objects (constant_meanings s.constants))
       ∙ append_meaning s text own (ports ++ objects ++ constant_meanings s.constants) own_parameters.entries
@@ -228,7 +229,7 @@ module _ (s : Scope) (outer : List Names) (c : Contents) where
   from_others text shapeless u h k = tt
   from_others text later u h k = h
 
-  pub level_means : IsLaid s c → (text : List ℕ) → LevelMeans s text (meaning_of (scope_meanings s outer c) text)
+  pub level_means : IsLaid s c → (text : List ℕ) → LevelMeans s text (meaning_of (scope_meanings s beyond outer c) text)
   level_means laid text =
       subst (LevelMeans s text) (sym (steps_are text))
       (by (is_undeclared (meaning_of own text)) (is_undeclared (meaning_of (ports ++ objects) text)) refl refl)
@@ -262,7 +263,7 @@ module _ (s : Scope) (outer : List Names) (c : Contents) where
   named_constants [] = tt
   named_constants (k ∷ cs) = (tt, named_constants cs)
 
-  pub level_named : AreNamed (scope_meanings s outer c)
+  pub level_named : AreNamed (scope_meanings s beyond outer c)
   level_named =
       subst AreNamed (sym (regroup own ports objects (constant_meanings s.constants)))
       (named_entries own own_parameters.entries (ports ++ objects ++ constant_meanings s.constants)
@@ -278,7 +279,7 @@ AreLaid (s ∷ ss) (c ∷ cs) = IsLaid s c × AreLaid ss cs
 pub all_named : (ss : List Scope) (cs : List Contents) → AllNamed (all_meanings ss cs)
 all_named [] cs = tt
 all_named (s ∷ ss) [] = tt
-all_named (s ∷ ss) (c ∷ cs) = (level_named s (all_meanings ss cs) c, all_named ss cs)
+all_named (s ∷ ss) (c ∷ cs) = (level_named s (reached cs c.earlier (all_meanings ss cs)) (all_meanings ss cs) c, all_named ss cs)
 
 declared_past : (text : List ℕ) (ds es : List Decl) → is_declared ds text ≡ false
     → declared_as (ds ++ es) text ≡ declared_as es text
@@ -348,11 +349,14 @@ pub all_meant : (ss : List Scope) (cs : List Contents) → AreLaid ss cs → (te
 all_meant [] cs h text k = tt
 all_meant (s ∷ ss) [] h text k = absurd h
 all_meant (s ∷ ss) (c ∷ cs) h text k =
-    by (meaning_of (scope_meanings s outer c) text) (level_means s outer c h.0 text)
+    by (meaning_of (scope_meanings s beyond outer c) text) (level_means s beyond outer c h.0 text)
     k (all_meant ss cs h.1 text)
   where
     outer : List Names
     outer = all_meanings ss cs
+
+    beyond : List Names
+    beyond = reached cs c.earlier outer
 
     by : (m : Meaning) → LevelMeans s text m
         → IsSound (if is_undeclared m then meaning_in outer text else m)

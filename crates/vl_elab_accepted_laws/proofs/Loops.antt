@@ -1,14 +1,21 @@
 -- The full names of a loop's turns differ.
 use Rattle.std.specs.Prelude.{◌≡◌, refl, ℕ, zero, suc, ◌+◌, ◌<◌, ◌≤◌, ◌^◌, List, []}
-use Rattle.std.specs.Prelude.{◌∷◌, ◌++◌, length, Bool, true, false}
+use Rattle.std.specs.Prelude.{◌∷◌, ◌++◌, Bool, true, false}
 use Rattle.std.specs.Prelude.{if◌then◌else◌}
-use Rattle.std.proofs.Common.{sym, ◌∙◌, subst, arith, length-append}
+use Rattle.std.proofs.Common.{sym, ◌∙◌, subst, arith}
 use Rattle.std.proofs.lemmas.List.{append_cancel_left}
+use Rattle.fv_text.specs.declared.pos.Pos.{Pos}
+use Rattle.vl_tree.specs.declared.part.LoopHead.{LoopHead}
 use Rattle.vl_tree.specs.declared.source.Module.{Module}
+use Rattle.vl_tree.specs.Attributes.{Attributes}
+use Rattle.vl_tree.specs.Expr.{Expr}
+use Rattle.vl_tree.specs.Item.{Block, for_loop, if_only, if_else}
 use Rattle.vl_mean.specs.declared.const_number.Const.{Const}
+use Rattle.vl_mean.specs.FlatLaw.{nodes}
 use Rattle.vl_mean.specs.Runs.{Each}
-use Rattle.vl_mean.specs.Walk.{Step, turns, turn_path}
+use Rattle.vl_mean.specs.Walk.{Place, Step, item, turns, turn_path}
 use Rattle.vl_mean_flat.proofs.EachOf.{front, back}
+use Rattle.vl_elab_spec.specs.Counts.{loop_nodes, step_nodes}
 use Rattle.vl_elab_accepted_laws.specs.SoundSteps.{HasSoundNames}
 use Rattle.vl_elab_accepted_laws.proofs.Contained.{clash}
 use Rattle.vl_elab_accepted_laws.proofs.Declared.{full_names}
@@ -33,37 +40,87 @@ pub both-clear : (ms : List Module) (xs : List Step) → AreFine ms xs → Each 
 both-clear ms [] h k = tt
 both-clear ms (x ∷ xs) h k = ((h.0, k.0), both-clear ms xs h.1 k.1)
 
--- so few steps that numbers of constructs are printed whole
+-- how many nodes steps have
+pub weight : List Step → ℕ
+weight [] = 0
+weight (x ∷ xs) = step_nodes x + weight xs
+
+pub weight-none : weight [] ≡ 0
+unfolding weight
+weight-none = refl
+
+pub weight-next : (x : Step) (xs : List Step) → weight (x ∷ xs) ≡ step_nodes x + weight xs
+unfolding weight
+weight-next x xs = refl
+
+behind-first : (a b c d e : ℕ) → d ≡ a + e → e ≡ b + c → d ≡ a + b + c
+behind-first a b c d e h k = omega (arith, h, k)
+
+weight-append : (xs ys : List Step) → weight (xs ++ ys) ≡ weight xs + weight ys
+weight-append [] ys = omega (arith, weight-none)
+weight-append (x ∷ xs) ys =
+    behind-first (step_nodes x) (weight xs) (weight ys) (weight (x ∷ xs ++ ys)) (weight (xs ++ ys))
+    (weight-next x (xs ++ ys)) (weight-append xs ys)
+    ∙ (λ i. sym (weight-next x xs) i + weight ys)
+
+-- so few nodes that numbers of constructs are printed whole
 abbrev pub AreFew : ℕ → List Step → Type 0
-AreFew n xs = n + length xs < 2 ^ 64
+AreFew n xs = n + weight xs < 2 ^ 64
 
 pub few-front : (n : ℕ) (xs ys : List Step) → AreFew n (xs ++ ys) → AreFew n xs
-few-front n xs ys h = let e : length (xs ++ ys) ≡ length xs + length ys = length-append xs ys in omega arith
+few-front n xs ys h = let e : weight (xs ++ ys) ≡ weight xs + weight ys = weight-append xs ys in omega (arith, e, h)
 
 pub few-back : (n : ℕ) (xs ys : List Step) → AreFew n (xs ++ ys) → AreFew n ys
-few-back n xs ys h = let e : length (xs ++ ys) ≡ length xs + length ys = length-append xs ys in omega arith
+few-back n xs ys h = let e : weight (xs ++ ys) ≡ weight xs + weight ys = weight-append xs ys in omega (arith, e, h)
 
 pub few-start : (n : ℕ) (xs : List Step) → AreFew n xs → n < 2 ^ 64
 few-start n xs h = omega arith
 
+less-behind : (n a b c : ℕ) → c ≡ a + b → n + c < 2 ^ 64 → n + b < 2 ^ 64
+less-behind n a b c e h = omega (arith, e, h)
+
+less-one : (n a b c : ℕ) → 0 < n → c ≡ a + b → n + c < 2 ^ 64 → 1 + b < 2 ^ 64
+less-one n a b c z e h = omega (arith, z, e, h)
+
 -- behind a step
-pub few-tail : (n : ℕ) (xs : List Step) → n + suc (length xs) < 2 ^ 64 → AreFew n xs
-few-tail n xs h = omega arith
+pub few-tail : (n : ℕ) (x : Step) (xs : List Step) → AreFew n (x ∷ xs) → AreFew n xs
+few-tail n x xs h = less-behind n (step_nodes x) (weight xs) (weight (x ∷ xs)) (weight-next x xs) h
 
 pub few-one : (n : ℕ) (xs : List Step) → 0 < n → AreFew n xs → AreFew 1 xs
 few-one n xs z h = omega arith
 
-pub few-next : (n : ℕ) (xs : List Step) → 0 < n → n + suc (length xs) < 2 ^ 64 → AreFew 1 xs
-few-next n xs z h = omega arith
+pub few-next : (n : ℕ) (x : Step) (xs : List Step) → 0 < n → AreFew n (x ∷ xs) → AreFew 1 xs
+few-next n x xs z h = less-one n (step_nodes x) (weight xs) (weight (x ∷ xs)) z (weight-next x xs) h
 
-pub few-rest : (n c : ℕ) (xs ys : List Step) → c ≤ length xs → AreFew n (xs ++ ys) → AreFew (n + c) ys
-few-rest n c xs ys k h = let e : length (xs ++ ys) ≡ length xs + length ys = length-append xs ys in omega arith
+pub few-rest : (n c : ℕ) (xs ys : List Step) → c ≤ weight xs → AreFew n (xs ++ ys) → AreFew (n + c) ys
+few-rest n c xs ys k h = let e : weight (xs ++ ys) ≡ weight xs + weight ys = weight-append xs ys in omega (arith, e, k, h)
 
-pub none-or-more : (xs : List Step) → 0 ≤ length xs
+pub none-or-more : (xs : List Step) → 0 ≤ weight xs
 none-or-more xs = omega arith
 
-pub one-or-more : (xs : List Step) → 1 ≤ suc (length xs)
-one-or-more xs = omega arith
+at-least : (a b c : ℕ) → c ≡ a + b → 1 ≤ a → 1 ≤ c
+at-least a b c e h = omega (arith, e, h)
+
+-- a step that has a node, and others behind it
+pub one-or-more : (x : Step) (xs : List Step) → 1 ≤ step_nodes x → 1 ≤ weight (x ∷ xs)
+one-or-more x xs h = at-least (step_nodes x) (weight xs) (weight (x ∷ xs)) (weight-next x xs) h
+
+-- constructs have nodes
+
+counted-once : (n : ℕ) → 1 ≤ n + 1
+counted-once n = omega arith
+
+pub loop-counts : (at : Place) (attrs : Attributes) (p : Pos) (head : LoopHead) (b : Block)
+    → 1 ≤ step_nodes (item at (for_loop attrs p head b))
+loop-counts at attrs p head b = counted-once (nodes head.start + loop_nodes head at)
+
+pub if-counts : (at : Place) (attrs : Attributes) (p : Pos) (c : Expr) (b : Block)
+    → 1 ≤ step_nodes (item at (if_only attrs p c b))
+if-counts at attrs p c b = counted-once (nodes c)
+
+pub else-counts : (at : Place) (attrs : Attributes) (p : Pos) (c : Expr) (b d : Block)
+    → 1 ≤ step_nodes (item at (if_else attrs p c b d))
+else-counts at attrs p c b d = counted-once (nodes c)
 
 pub positive-sum : (n c : ℕ) → 0 < n → 0 < n + c
 positive-sum n c z = omega arith

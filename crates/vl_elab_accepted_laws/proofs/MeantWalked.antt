@@ -37,6 +37,8 @@ use Rattle.vl_mean.specs.Constants.{constant_operand}
 use Rattle.vl_mean.specs.Declarations.{constructs, names_of, is_if, label_of, block_name, full_port, ports_of}
 use Rattle.vl_mean.specs.Runs.{Each}
 use Rattle.vl_mean.specs.Scopes.{Scope, constant_in}
+use Rattle.vl_mean.specs.Walk.{all_valued}
+use Rattle.vl_mean.specs.Walk.{has_any}
 use Rattle.vl_mean.specs.Walk.{Place, Use, Step, Unfolding, with_earlier, module_named, module_parameters}
 use Rattle.vl_mean.specs.Walk.{module_place, module_scope, module_contents, parameter_names, port_names, written_ports}
 use Rattle.vl_mean.specs.Walk.{header_steps, port_step, optional_name, port_steps, use_of, connections_of}
@@ -128,9 +130,9 @@ found_module (Some m) f h = h m
 
 module _ (ms : List Module) (inner : Unfolding) (unfolds : Unfolds inner) where
   instance_right : (at : Place) (x : Instance) → AreLaid at.scopes at.contents
-      → Right (instance_steps ms inner at x)
+      → Right (instance_steps all_valued ms inner at x)
   instance_right at x h =
-      let u : Use = use_of at.scopes x in
+      let u : Use = use_of has_any at.scopes x in
       let inside : List ℕ = at.path ++ x.name ++ codes "." in
       found_module (module_named ms x.definition) _ (λ m.
       unfolds m u inside at.modules _
@@ -185,24 +187,30 @@ module _ (ms : List Module) (inner : Unfolding) (unfolds : Unfolds inner) where
 
     turn_right : (b : Block) (at : Place) (path : List ℕ) → AreLaid at.scopes at.contents
         → Right (turn_steps ms inner b at path)
-    turn_right (begin p label xs) at path h = items_right xs (block_place at path xs) 1 (block_laid at path xs h)
-    turn_right (region p xs) at path h = items_right xs (block_place at path xs) 1 (block_laid at path xs h)
-    turn_right (single x) at path h =
-        item_right x (block_place at path (more_items x no_items)) 1 (block_laid at path (more_items x no_items) h)
+    turn_right (begin p label xs) at path h =
+        (right_here at h, items_right xs (block_place at path xs) 1 (block_laid at path xs h))
+    turn_right (region p xs) at path h =
+        (right_here at h, items_right xs (block_place at path xs) 1 (block_laid at path xs h))
+    turn_right (single x) at path h = (
+      right_here at h,
+      item_right x (block_place at path (more_items x no_items)) 1 (block_laid at path (more_items x no_items) h),
+    )
 
     block_right : (b : Block) (at : Place) (n : ℕ) → AreLaid at.scopes at.contents
         → Right (block_steps ms inner b at n)
     block_right (begin p label xs) at n h =
         let path : List ℕ = block_path at (block_name at.names n label) in
-        items_right xs (block_place at path xs) 1 (block_laid at path xs h)
+        (right_here at h, items_right xs (block_place at path xs) 1 (block_laid at path xs h))
     block_right (region p xs) at n h =
         let path : List ℕ = block_path at (block_name at.names n None) in
-        items_right xs (block_place at path xs) 1 (block_laid at path xs h)
-    block_right (single x) at n h =
-        item_right x (single_place at n x) (single_number n x)
-        (single_laid (is_if x) at
-        (block_place at (block_path at (block_name at.names n None)) (more_items x no_items)) h
-        (block_laid at (block_path at (block_name at.names n None)) (more_items x no_items) h))
+        (right_here at h, items_right xs (block_place at path xs) 1 (block_laid at path xs h))
+    block_right (single x) at n h = (
+      right_here at h,
+      item_right x (single_place at n x) (single_number n x)
+          (single_laid (is_if x) at
+          (block_place at (block_path at (block_name at.names n None)) (more_items x no_items)) h
+          (block_laid at (block_path at (block_name at.names n None)) (more_items x no_items) h)),
+    )
 
 unfolded_right : (n : ℕ) (ms : List Module) → Unfolds (λ m u path modules front. unfolded n ms m u path modules front)
 unfolded_right zero ms m u path modules front h = tt

@@ -18,12 +18,12 @@ use Rattle.vl_elab_accepted_laws.proofs.Contained.{Different}
 use Rattle.vl_elab_accepted_laws.proofs.Declared.{full_names, full-parts, different-decls}
 use Rattle.vl_elab_accepted_laws.proofs.Good.{Good, Under, Any}
 use Rattle.vl_elab_accepted_laws.proofs.Items.{good-module}
-use Rattle.vl_elab_accepted_laws.proofs.Loops.{AreFew, both-clear}
+use Rattle.vl_elab_accepted_laws.proofs.Loops.{AreFew, both-clear, weight}
 use Rattle.vl_elab_accepted_laws.proofs.NoneRefused.{IsCounted, walk-counted}
 use Rattle.vl_elab_accepted_laws.proofs.SoundWalked.{walk_sound}
 use Rattle.vl_elab_accepted_laws.proofs.Modules.{good-unfolded}
 
-few-of : (xs : List Step) → 0 + length xs ≤ 4000000 → AreFew 1 xs
+few-of : (xs : List Step) → 0 + weight xs ≤ 4000000 → AreFew 1 xs
 few-of xs h = omega arith
 
 -- ---- the design

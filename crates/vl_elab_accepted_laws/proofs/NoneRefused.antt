@@ -1,24 +1,20 @@
 -- Steps of which none is refused.
-use Rattle.std.specs.Prelude.{◌≡◌, refl, ℕ, ◌+◌, ◌≤◌, nat_lt, List, [], ◌∷◌, length}
+use Rattle.std.specs.Prelude.{◌≡◌, refl, ℕ, ◌+◌, ◌≤◌, nat_lt, List, [], ◌∷◌}
 use Rattle.std.specs.Prelude.{true, false, Option, Some, None, is_none}
 use Rattle.std.proofs.Common.{ap, sym, true≢false, arith}
 use Rattle.std.proofs.lemmas.Bool.Decides.{nat_tests}
 use Rattle.vl_tree.specs.declared.source.Module.{Module}
-use Rattle.vl_tree.specs.Item.{Item, declaration, integer, genvar, parameter, assign, always, initial, instance}
-use Rattle.vl_tree.specs.Item.{generate, for_loop, if_only, if_else}
-use Rattle.vl_mean.specs.Walk.{Place, Step, header, port, item, override, connection}
-use Rattle.vl_mean.specs.Walk.{walk}
+use Rattle.vl_mean.specs.Walk.{Step, walk}
 use Rattle.vl_elab_spec.specs.declared.elab_fault.ElabFault.{ElabFault}
 use Rattle.vl_elab_spec.specs.declared.elab_fault.ElabFault.TheVariants as f
-use Rattle.vl_elab_spec.specs.Counts.{item_nodes, step_nodes, loop_nodes}
-use Rattle.vl_mean.specs.FlatLaw.{nodes}
+use Rattle.vl_elab_spec.specs.Counts.{step_nodes}
 use Rattle.vl_elab_spec.specs.Items.{step_refusals}
 use Rattle.vl_elab_spec.specs.Refused.{Totals, counted, first_refused, is_too_large, lowest}
 use Rattle.vl_elab_spec.specs.Refused.{or_later, refusals_at}
 use Rattle.vl_elab_accepted_laws.specs.Unrefused.{NoStepRefused}
 use Rattle.vl_elab_accepted_laws.proofs.Contained.{or_first}
 use Rattle.vl_elab_accepted_laws.proofs.Fresh.{NoneOf, none-front, none-back, not-refused}
-use Rattle.vl_elab_accepted_laws.proofs.Loops.{AreFine}
+use Rattle.vl_elab_accepted_laws.proofs.Loops.{AreFine, weight, weight-next, weight-none}
 
 -- ---- no step is refused
 
@@ -34,34 +30,9 @@ lowest-none : (gs : List ElabFault) → lowest gs ≡ None → NoneOf gs
 lowest-none [] e = refl
 lowest-none (g ∷ gs) e = absurd (true≢false (sym (ap is_none e)))
 
-counted-once : (n : ℕ) → 1 ≤ n + 1
-counted-once n = omega arith
-
-item-counts : (at : Place) (x : Item) → 1 ≤ item_nodes at x
-item-counts at (declaration attrs p d) = omega arith
-item-counts at (integer attrs p xs) = omega arith
-item-counts at (genvar attrs p xs) = omega arith
-item-counts at (parameter attrs p kind xs) = omega arith
-item-counts at (assign attrs p xs) = omega arith
-item-counts at (always attrs p event s) = omega arith
-item-counts at (initial attrs p s) = omega arith
-item-counts at (instance attrs p x) = omega arith
-item-counts at (generate attrs p mark) = omega arith
-item-counts at (for_loop attrs p head b) =
-    counted-once (nodes head.start + loop_nodes head at)
-item-counts at (if_only attrs p c b) = omega arith
-item-counts at (if_else attrs p c b d) = omega arith
-
-step-counts : (x : Step) → 1 ≤ step_nodes x
-step-counts (header at x) = omega arith
-step-counts (port at u p q) = omega arith
-step-counts (item at x) = item-counts at x
-step-counts (override at m u given x) = omega arith
-step-counts (connection at m u inside given x) = omega arith
-
 pub record IsCounted (ms : List Module) (t : Totals) (xs : List Step) : Type 0 where
   pub fine : AreFine ms xs
-  pub few : t.nodes + length xs ≤ 4000000
+  pub few : t.nodes + weight xs ≤ 4000000
 
 not-large : (n : ℕ) → nat_lt 4000000 n ≡ false → n ≤ 4000000
 not-large n h = grind (arith, nat_tests)
@@ -69,7 +40,7 @@ not-large n h = grind (arith, nat_tests)
 pub none-refused : (ms : List Module) (t : Totals) (xs : List Step) → t.nodes ≤ 4000000
     → first_refused ms t xs ≡ None
     → IsCounted ms t xs
-none-refused ms t [] f e = record { fine = tt; few = omega arith }
+none-refused ms t [] f e = record { fine = tt; few = omega (arith, f, weight-none) }
 none-refused ms t (x ∷ xs) f e =
     let first : NoneOf (refusals_at ms t x)
     = lowest-none (refusals_at ms t x) (later-first (lowest (refusals_at ms t x))
@@ -79,9 +50,10 @@ none-refused ms t (x ∷ xs) f e =
     let few : t.nodes + step_nodes x ≤ 4000000 = not-large (t.nodes + step_nodes x) (or_first _ _ small) in
     let rest : IsCounted ms (counted t x) xs = none-refused ms (counted t x) xs few
     (later-second (lowest (refusals_at ms t x)) (first_refused ms (counted t x) xs) e) in
-    let more : t.nodes + step_nodes x + length xs ≤ 4000000 = rest.few in
-    let one : 1 ≤ step_nodes x = step-counts x in
-    record { fine = (none-front (step_refusals ms x) _ first, rest.fine); few = omega arith }
+    let more : t.nodes + step_nodes x + weight xs ≤ 4000000 = rest.few in record {
+      fine = (none-front (step_refusals ms x) _ first, rest.fine);
+      few = omega (arith, more, weight-next x xs);
+    }
 
 pub walk-counted : (ms : List Module) (top : List ℕ) → NoStepRefused ms top
     → IsCounted ms (record { nodes = 0; names = 0 }) (walk ms top)

@@ -25,6 +25,7 @@ use Rattle.vl_elab_spec.specs.Items.{is_localparam, parameters_refusals, item_re
 use Rattle.vl_elab_spec.specs.Meanings.{Meaning, Names, is_undeclared, meaning_of, constant_or, all_later, all_meanings}
 use Rattle.vl_elab_spec.specs.Meanings.{is_overridden, is_known_parameter, may_be_selected, parameters_of}
 use Rattle.vl_elab_spec.specs.Meanings.{with_parameter_meanings, with_item_constants}
+use Rattle.vl_elab_spec.specs.Meanings.{reached}
 use Rattle.vl_elab_accepted_laws.proofs.Contained.{Has, Lacks, clash, has-first, has-back, lacks-front, each-has}
 use Rattle.vl_elab_accepted_laws.proofs.Fresh.{NoneOf, none-front, none-back, parameters-new, item-new}
 use Rattle.vl_elab_accepted_laws.proofs.Plain.{all-each}
@@ -35,7 +36,8 @@ use Rattle.vl_elab_accepted_laws.proofs.Level.{own, own_names}
 use Rattle.vl_elab_accepted_laws.proofs.Standing.{AreItsConstants, own_meaning}
 use Rattle.vl_elab_accepted_laws.proofs.Reached.{AreConstants, IsConstant, AreThere, constant_there, constants_listed}
 use Rattle.vl_elab_accepted_laws.proofs.Reached.{constants_there, there_append, AreSoFar, around_now, before}
-use Rattle.vl_elab_accepted_laws.proofs.Reached.{known_parameter}
+use Rattle.vl_elab_accepted_laws.proofs.Reached.{AllValued, known_parameter}
+use Rattle.vl_elab_accepted_laws.proofs.Reached.{reached_named, reached_sound}
 
 append-list : (xs ys zs : List (List ℕ)) → (xs ++ ys) ++ zs ≡ xs ++ (ys ++ zs)
 append-list [] ys zs = refl
@@ -113,6 +115,16 @@ module _ (s : Scope) (ss : List Scope) (c : Contents) (cs : List Contents) (arou
   abbrev outer : List Names
   outer = all_meanings ss cs
 
+  -- what is reached of the scopes around
+  abbrev beyond : List Names
+  beyond = reached cs c.earlier outer
+
+  beyond_named : AllNamed beyond
+  beyond_named = reached_named cs c.earlier outer outer_named
+
+  beyond_sound : AreSound beyond
+  beyond_sound text = reached_sound cs c.earlier outer text (outer_sound text)
+
   -- the place behind the names that stand before
   abbrev pub at : List (List ℕ) → Place
   at earlier = record {
@@ -128,7 +140,7 @@ module _ (s : Scope) (ss : List Scope) (c : Contents) (cs : List Contents) (arou
   -- the names so far are the first of all parameters
   abbrev Begins : Names → Type 0
   Begins ns = (text : List ℕ) → is_undeclared (meaning_of ns text) ≡ false
-      → own_meaning s outer c text ≡ meaning_of ns text
+      → own_meaning s beyond outer c text ≡ meaning_of ns text
 
   begins_less : (ns ms : Names) → AreThere ns → Begins (ns ++ ms) → Begins ns
   begins_less ns ms all h text d =
@@ -162,12 +174,12 @@ module _ (s : Scope) (ss : List Scope) (c : Contents) (cs : List Contents) (arou
 
   module _ (os : Overrides) where
     abbrev now : Names → Parameter → Meaning
-    now ns x = constant_or (is_known_parameter os (around_now s outer c made outer_named outer_sound ns) x)
+    now ns x = constant_or (is_known_parameter os (around_now s beyond outer c made outer_named outer_sound beyond_named beyond_sound ns) x)
         (constant_of s.constants x.name)
-        (may_be_selected (around_now s outer c made outer_named outer_sound ns) x.shape.range)
+        (may_be_selected (around_now s beyond outer c made outer_named outer_sound beyond_named beyond_sound ns) x.shape.range)
 
     abbrev with_these : Names → List Parameter → Names
-    with_these ns xs = with_parameter_meanings s outer os (all_later c) ns xs
+    with_these ns xs = with_parameter_meanings s beyond os (all_later c) ns xs
 
     grows : (xs : List Parameter) (ns : Names) → Grown ns (with_these ns xs)
     grows [] ns = record { more = []; is = none_more ns }
@@ -180,14 +192,15 @@ module _ (s : Scope) (ss : List Scope) (c : Contents) (cs : List Contents) (arou
     stays_there (x ∷ xs) ns h =
         stays_there xs (ns ++ (x.name, now ns x) ∷ [])
         (both (λ n. is_undeclared n.1 ≡ false) ns ((x.name, now ns x) ∷ []) h (
-          there_or (is_known_parameter os (around_now s outer c made outer_named outer_sound ns) x)
+          there_or (is_known_parameter os (around_now s beyond outer c made outer_named outer_sound beyond_named beyond_sound ns) x)
               (constant_of s.constants x.name)
-              (may_be_selected (around_now s outer c made outer_named outer_sound ns) x.shape.range),
+              (may_be_selected (around_now s beyond outer c made outer_named outer_sound beyond_named beyond_sound ns) x.shape.range),
           tt,
         ))
 
     module _ (kind : ParameterKind)
         (same : (text : List ℕ) → (not (is_localparam kind) && is_overridden c.overrides text) ≡ is_overridden os text)
+        (valued : AllValued os)
       where
         parameters_constant : (xs : List Parameter) (ns : Names) (first earlier rest : List (List ℕ)) → AreConstants ns
             → Begins (with_these ns xs) → names_in ns ++ (parameter_names xs ++ rest) ≡ own_names c
@@ -217,7 +230,7 @@ module _ (s : Scope) (ss : List Scope) (c : Contents) (cs : List Contents) (arou
                 both (Lacks earlier) (parameter_names (x ∷ xs)) rest (parameters-new (at first) kind earlier (x ∷ xs) h)
                 (fewer earlier (parameter_names (x ∷ xs)) rest lacks)
 
-            so_far : AreSoFar s outer c made outer_named outer_sound ns earlier
+            so_far : AreSoFar s beyond outer c made outer_named outer_sound beyond_named beyond_sound ns earlier
             so_far = record {
               all = all;
               begin = begins_so_far ns (with_these ns (x ∷ xs)) (constants_there ns all) (grows (x ∷ xs) ns) begins;
@@ -228,15 +241,15 @@ module _ (s : Scope) (ss : List Scope) (c : Contents) (cs : List Contents) (arou
             }
 
             ns_before : List Names
-            ns_before = before s outer c made outer_named outer_sound earlier
+            ns_before = before s beyond outer c made outer_named outer_sound beyond_named beyond_sound earlier
 
             values : List ElabFault
             values = if not (is_localparam kind) && is_overridden c.overrides x.name then []
                 else expr_refusals ns_before true (value_context ns_before x.shape.range x.value) x.value
 
-            known_so : is_known_parameter os (around_now s outer c made outer_named outer_sound ns) x ≡ true
+            known_so : is_known_parameter os (around_now s beyond outer c made outer_named outer_sound beyond_named beyond_sound ns) x ≡ true
             known_so =
-                known_parameter s outer c made outer_named outer_sound ns earlier so_far os x w.0
+                known_parameter s beyond outer c made outer_named outer_sound beyond_named beyond_sound ns earlier so_far os x valued w.0
                 (none-back _ (range_refusals ns_before x.shape.range)
                 (none-front _ (width_refusals ns_before x.pos x.shape.range) (none-front _ values none_here)))
                 (none-back _ (width_refusals ns_before x.pos x.shape.range) (none-front _ values none_here))
@@ -247,16 +260,16 @@ module _ (s : Scope) (ss : List Scope) (c : Contents) (cs : List Contents) (arou
             is_constant : IsConstant (now ns x)
             is_constant =
                 subst (λ b. IsConstant (constant_or b (constant_of s.constants x.name)
-                (may_be_selected (around_now s outer c made outer_named outer_sound ns) x.shape.range))) (sym known_so)
+                (may_be_selected (around_now s beyond outer c made outer_named outer_sound beyond_named beyond_sound ns) x.shape.range))) (sym known_so)
                 (constant_there (constant_of s.constants x.name)
-                (may_be_selected (around_now s outer c made outer_named outer_sound ns) x.shape.range)
+                (may_be_selected (around_now s beyond outer c made outer_named outer_sound beyond_named beyond_sound ns) x.shape.range)
                 (made.there x.name (subst (λ l. Has l x.name) list
                 (has-back (names_in ns) behind x.name (has-first x.name (parameter_names xs ++ rest))))))
 
   -- ---- those of the items
 
   abbrev with_items : Names → Items → Names
-  with_items ns xs = with_item_constants s outer c.overrides (all_later c) ns xs
+  with_items ns xs = with_item_constants s beyond c.overrides (all_later c) ns xs
 
   grown_both : (ns ms whole : Names) → Grown ns ms → Grown ms whole → Grown ns whole
   grown_both ns ms whole h k = record {
@@ -287,7 +300,7 @@ module _ (s : Scope) (ss : List Scope) (c : Contents) (cs : List Contents) (arou
   -- those of an item, and then those of the items behind it
   both_constant : (ms : List Module) (os : Overrides) (kind : ParameterKind)
       (same : (text : List ℕ) → (not (is_localparam kind) && is_overridden c.overrides text) ≡ is_overridden os text)
-      (ys : List Parameter) (xs : Items) (ns : Names) (earlier : List (List ℕ)) → AreConstants ns
+      (valued : AllValued os) (ys : List Parameter) (xs : Items) (ns : Names) (earlier : List (List ℕ)) → AreConstants ns
       → Begins (with_items (with_these os ns ys) xs)
       → names_in ns ++ (parameter_names ys ++ parameters_of xs) ≡ own_names c
       → NoneOf (parameters_refusals (at earlier) kind earlier ys)
@@ -295,61 +308,62 @@ module _ (s : Scope) (ss : List Scope) (c : Contents) (cs : List Contents) (arou
       → (AreConstants (with_these os ns ys) → names_in (with_these os ns ys) ++ parameters_of xs ≡ own_names c
       → AreConstants (with_items (with_these os ns ys) xs))
       → AreConstants (with_items (with_these os ns ys) xs)
-  both_constant ms os kind same ys xs ns earlier all begins list h fine w next =
+  both_constant ms os kind same valued ys xs ns earlier all begins list h fine w next =
       let whole : Names = with_items (with_these os ns ys) xs in
       let there : AreThere (with_these os ns ys) = stays_there os ys ns (constants_there ns all) in
       next
-      (parameters_constant os kind same ys ns earlier earlier (parameters_of xs) all
+      (parameters_constant os kind same valued ys ns earlier earlier (parameters_of xs) all
       (begins_so_far (with_these os ns ys) whole there (items_grow xs (with_these os ns ys)) begins) list h
       (parameters_new ms (at (earlier ++ parameter_names ys)) xs fine) (all-each IsParameter ys w))
-      (ap (λ l. l ++ parameters_of xs) (parameter_list s outer (all_later c) os ys ns)
+      (ap (λ l. l ++ parameters_of xs) (parameter_list s beyond (all_later c) os ys ns)
       ∙ append-list (names_in ns) (parameter_names ys) (parameters_of xs) ∙ list)
 
-  pub items_constant : (ms : List Module) (xs : Items) (ns : Names) (earlier : List (List ℕ)) → AreConstants ns
-      → Begins (with_items ns xs) → names_in ns ++ parameters_of xs ≡ own_names c → ItemsFine ms (at earlier) xs
-      → AreWellFormed xs → AreConstants (with_items ns xs)
-  items_constant ms no_items ns earlier all begins list h w = all
-  items_constant ms (more_items (parameter attrs p k.Parameter ys) xs) ns earlier all begins list h w =
-      both_constant ms c.overrides k.Parameter (λ text. refl) ys xs ns earlier all begins list h.0 h.1 w.0.1.1
-      (λ all list. items_constant ms xs (with_these c.overrides ns ys) (earlier ++ parameter_names ys) all begins list
-      h.1 w.1)
-  items_constant ms (more_items (parameter attrs p k.Localparam ys) xs) ns earlier all begins list h w =
-      both_constant ms [] k.Localparam (λ text. refl) ys xs ns earlier all begins list h.0 h.1 w.0.1.1
-      (λ all list. items_constant ms xs (with_these [] ns ys) (earlier ++ parameter_names ys) all begins list h.1 w.1)
-  items_constant ms (more_items (declaration attrs p d) xs) ns earlier all begins list h w =
-      items_constant ms xs ns (earlier ++ names_of (declaration attrs p d)) all begins list h.1 w.1
-  items_constant ms (more_items (integer attrs p ys) xs) ns earlier all begins list h w =
-      items_constant ms xs ns (earlier ++ names_of (integer attrs p ys)) all begins list h.1 w.1
-  items_constant ms (more_items (genvar attrs p ys) xs) ns earlier all begins list h w =
-      items_constant ms xs ns (earlier ++ names_of (genvar attrs p ys)) all begins list h.1 w.1
-  items_constant ms (more_items (assign attrs p ys) xs) ns earlier all begins list h w =
-      items_constant ms xs ns (earlier ++ names_of (assign attrs p ys)) all begins list h.1 w.1
-  items_constant ms (more_items (always attrs p e y) xs) ns earlier all begins list h w =
-      items_constant ms xs ns (earlier ++ names_of (always attrs p e y)) all begins list h.1 w.1
-  items_constant ms (more_items (initial attrs p y) xs) ns earlier all begins list h w =
-      items_constant ms xs ns (earlier ++ names_of (initial attrs p y)) all begins list h.1 w.1
-  items_constant ms (more_items (instance attrs p y) xs) ns earlier all begins list h w =
-      items_constant ms xs ns (earlier ++ names_of (instance attrs p y)) all begins list h.1 w.1
-  items_constant ms (more_items (generate attrs p y) xs) ns earlier all begins list h w =
-      items_constant ms xs ns (earlier ++ names_of (generate attrs p y)) all begins list h.1 w.1
-  items_constant ms (more_items (for_loop attrs p y b) xs) ns earlier all begins list h w =
-      items_constant ms xs ns (earlier ++ names_of (for_loop attrs p y b)) all begins list h.1 w.1
-  items_constant ms (more_items (if_only attrs p e b) xs) ns earlier all begins list h w =
-      items_constant ms xs ns (earlier ++ names_of (if_only attrs p e b)) all begins list h.1 w.1
-  items_constant ms (more_items (if_else attrs p e b d) xs) ns earlier all begins list h w =
-      items_constant ms xs ns (earlier ++ names_of (if_else attrs p e b d)) all begins list h.1 w.1
+  module _ (valued : AllValued c.overrides) where
+    pub items_constant : (ms : List Module) (xs : Items) (ns : Names) (earlier : List (List ℕ)) → AreConstants ns
+        → Begins (with_items ns xs) → names_in ns ++ parameters_of xs ≡ own_names c → ItemsFine ms (at earlier) xs
+        → AreWellFormed xs → AreConstants (with_items ns xs)
+    items_constant ms no_items ns earlier all begins list h w = all
+    items_constant ms (more_items (parameter attrs p k.Parameter ys) xs) ns earlier all begins list h w =
+        both_constant ms c.overrides k.Parameter (λ text. refl) valued ys xs ns earlier all begins list h.0 h.1 w.0.1.1
+        (λ all list. items_constant ms xs (with_these c.overrides ns ys) (earlier ++ parameter_names ys) all begins list
+        h.1 w.1)
+    items_constant ms (more_items (parameter attrs p k.Localparam ys) xs) ns earlier all begins list h w =
+        both_constant ms [] k.Localparam (λ text. refl) tt ys xs ns earlier all begins list h.0 h.1 w.0.1.1
+        (λ all list. items_constant ms xs (with_these [] ns ys) (earlier ++ parameter_names ys) all begins list h.1 w.1)
+    items_constant ms (more_items (declaration attrs p d) xs) ns earlier all begins list h w =
+        items_constant ms xs ns (earlier ++ names_of (declaration attrs p d)) all begins list h.1 w.1
+    items_constant ms (more_items (integer attrs p ys) xs) ns earlier all begins list h w =
+        items_constant ms xs ns (earlier ++ names_of (integer attrs p ys)) all begins list h.1 w.1
+    items_constant ms (more_items (genvar attrs p ys) xs) ns earlier all begins list h w =
+        items_constant ms xs ns (earlier ++ names_of (genvar attrs p ys)) all begins list h.1 w.1
+    items_constant ms (more_items (assign attrs p ys) xs) ns earlier all begins list h w =
+        items_constant ms xs ns (earlier ++ names_of (assign attrs p ys)) all begins list h.1 w.1
+    items_constant ms (more_items (always attrs p e y) xs) ns earlier all begins list h w =
+        items_constant ms xs ns (earlier ++ names_of (always attrs p e y)) all begins list h.1 w.1
+    items_constant ms (more_items (initial attrs p y) xs) ns earlier all begins list h w =
+        items_constant ms xs ns (earlier ++ names_of (initial attrs p y)) all begins list h.1 w.1
+    items_constant ms (more_items (instance attrs p y) xs) ns earlier all begins list h w =
+        items_constant ms xs ns (earlier ++ names_of (instance attrs p y)) all begins list h.1 w.1
+    items_constant ms (more_items (generate attrs p y) xs) ns earlier all begins list h w =
+        items_constant ms xs ns (earlier ++ names_of (generate attrs p y)) all begins list h.1 w.1
+    items_constant ms (more_items (for_loop attrs p y b) xs) ns earlier all begins list h w =
+        items_constant ms xs ns (earlier ++ names_of (for_loop attrs p y b)) all begins list h.1 w.1
+    items_constant ms (more_items (if_only attrs p e b) xs) ns earlier all begins list h w =
+        items_constant ms xs ns (earlier ++ names_of (if_only attrs p e b)) all begins list h.1 w.1
+    items_constant ms (more_items (if_else attrs p e b d) xs) ns earlier all begins list h w =
+        items_constant ms xs ns (earlier ++ names_of (if_else attrs p e b d)) all begins list h.1 w.1
 
-  -- of a whole scope
-  pub all_constant : (ms : List Module) → NoneOf (parameters_refusals (at []) k.Parameter [] c.parameters)
-      → (earlier : List (List ℕ)) → Each (Lacks (parameter_names c.parameters)) (parameters_of c.items)
-      → ItemsFine ms (at earlier) c.items → Each IsParameter c.parameters → AreWellFormed c.items
-      → AreConstants (own s outer c)
-  all_constant ms head earlier new h w v =
-      let first : Names = with_these c.overrides [] c.parameters in
-      let begins : Begins (with_items first c.items) = λ text d. refl in
-      let there : AreThere first = stays_there c.overrides c.parameters [] tt in
-      let constant : AreConstants first
-      = parameters_constant c.overrides k.Parameter (λ text. refl) c.parameters [] [] [] (parameters_of c.items) tt
-      (begins_so_far first (with_items first c.items) there (items_grow c.items first) begins) refl head new w in
-      items_constant ms c.items first earlier constant begins
-      (ap (λ l. l ++ parameters_of c.items) (parameter_list s outer (all_later c) c.overrides c.parameters [])) h v
+    -- of a whole scope
+    pub all_constant : (ms : List Module) → NoneOf (parameters_refusals (at []) k.Parameter [] c.parameters)
+        → (earlier : List (List ℕ)) → Each (Lacks (parameter_names c.parameters)) (parameters_of c.items)
+        → ItemsFine ms (at earlier) c.items → Each IsParameter c.parameters → AreWellFormed c.items
+        → AreConstants (own s beyond outer c)
+    all_constant ms head earlier new h w v =
+        let first : Names = with_these c.overrides [] c.parameters in
+        let begins : Begins (with_items first c.items) = λ text d. refl in
+        let there : AreThere first = stays_there c.overrides c.parameters [] tt in
+        let constant : AreConstants first
+        = parameters_constant c.overrides k.Parameter (λ text. refl) valued c.parameters [] [] [] (parameters_of c.items) tt
+        (begins_so_far first (with_items first c.items) there (items_grow c.items first) begins) refl head new w in
+        items_constant ms c.items first earlier constant begins
+        (ap (λ l. l ++ parameters_of c.items) (parameter_list s beyond (all_later c) c.overrides c.parameters [])) h v

@@ -1,5 +1,5 @@
 -- The path of each step of a walk has neither a blank nor a control byte in it.
-use Rattle.std.specs.Prelude.{◌≡◌, refl, ℕ, zero, suc, ◌+◌, ◌<◌, ◌≤◌, ◌^◌, List, [], ◌∷◌, ◌++◌, length, codes}
+use Rattle.std.specs.Prelude.{◌≡◌, refl, ℕ, zero, suc, ◌+◌, ◌<◌, ◌≤◌, ◌^◌, List, [], ◌∷◌, ◌++◌, codes}
 use Rattle.std.specs.Prelude.{Bool, true, false, Option, Some, None, option_to_list, All, if◌then◌else◌}
 use Rattle.std.proofs.Common.{ap, sym, subst, arith}
 use Rattle.vl_tree.specs.declared.declaration.FullPort.{FullPort}
@@ -44,6 +44,9 @@ use Rattle.vl_mean.specs.Constants.{constant_operand}
 use Rattle.vl_mean.specs.Declarations.{block_name, constructs, full_port, is_if, label_of, names_of, ports_of}
 use Rattle.vl_mean.specs.Runs.{Each}
 use Rattle.vl_mean.specs.Scopes.{Scope, constant_in}
+use Rattle.vl_mean.specs.Walk.{block_step}
+use Rattle.vl_mean.specs.Walk.{all_valued}
+use Rattle.vl_mean.specs.Walk.{has_any}
 use Rattle.vl_mean.specs.Walk.{Place, Use, Step, Unfolding, header, port, item, override, connection, with_earlier}
 use Rattle.vl_mean.specs.Walk.{module_named, module_parameters, module_place, module_scope, parameter_names, port_names}
 use Rattle.vl_mean.specs.Walk.{written_ports, header_steps, port_step, optional_name, port_steps, use_of}
@@ -54,7 +57,7 @@ use Rattle.vl_mean.specs.Walk.{single_place, item_steps, items_steps, turn_steps
 use Rattle.vl_mean_flat.proofs.EachOf.{both}
 use Rattle.vl_elab_accepted_laws.proofs.Items.{found-module, genvar-turn, label-named, start-turn}
 use Rattle.vl_elab_accepted_laws.proofs.Loops.{AreFew, few-back, few-front, few-next, few-one, few-rest, few-start}
-use Rattle.vl_elab_accepted_laws.proofs.Loops.{few-tail}
+use Rattle.vl_elab_accepted_laws.proofs.Loops.{else-counts, few-tail, if-counts, loop-counts, weight}
 use Rattle.vl_elab_accepted_laws.proofs.Loops.{none-or-more, one-or-more, positive-one, positive-sum}
 use Rattle.vl_elab_accepted_laws.proofs.Plain.{all-each}
 use Rattle.vl_elab_accepted_laws.proofs.Turns.{IsTurn}
@@ -66,6 +69,7 @@ IsClean (header at x) = Unit {0}
 IsClean (port at u p q) = Clean at.path × IsName q.name × IsOptionalRange q.shape.range
 IsClean (item at x) = Clean at.path × IsWellFormed x
 IsClean (override at m u given x) = Unit {0}
+IsClean (block_step at b) = Unit {0}
 IsClean (connection at m u inside given x) = Unit {0}
 
 abbrev AreClean : List Step → Type 0
@@ -156,9 +160,9 @@ module _ (ms : List Module) (formed : All IsModule ms) (inner : Unfolding) (unfo
       (turn_path at.path (block_name at.names n (label_of b)) c)
 
   instance_clean : (at : Place) (x : Instance) → Clean at.path → IsName x.name
-      → Follows 1 (instance_steps ms inner at x)
+      → Follows 1 (instance_steps all_valued ms inner at x)
   instance_clean at x h w l =
-      let u : Use = use_of at.scopes x in
+      let u : Use = use_of has_any at.scopes x in
       let inside : List ℕ = at.path ++ x.name ++ codes "." in
       found_module (module_named ms x.definition) _
       (λ m e. unfolds m u inside at.modules _ (found-module ms x.definition m formed e)
@@ -174,7 +178,7 @@ module _ (ms : List Module) (formed : All IsModule ms) (inner : Unfolding) (unfo
       clean_both (at.path ++ block_name at.names n label) (codes ".")
       (clean_both at.path (block_name at.names n label) h (label_clean at.names n label k w)) refl
 
-  constructs_few : (x : Item) (at : Place) (n : ℕ) → constructs x ≤ length (Steps x at n)
+  constructs_few : (x : Item) (at : Place) (n : ℕ) → constructs x ≤ weight (Steps x at n)
   constructs_few (declaration attrs p d) at n = none-or-more (Steps (declaration attrs p d) at n)
   constructs_few (integer attrs p xs) at n = none-or-more (Steps (integer attrs p xs) at n)
   constructs_few (genvar attrs p xs) at n = none-or-more (Steps (genvar attrs p xs) at n)
@@ -184,9 +188,12 @@ module _ (ms : List Module) (formed : All IsModule ms) (inner : Unfolding) (unfo
   constructs_few (initial attrs p s) at n = none-or-more (Steps (initial attrs p s) at n)
   constructs_few (instance attrs p x) at n = none-or-more (Steps (instance attrs p x) at n)
   constructs_few (generate attrs p mark) at n = none-or-more (Steps (generate attrs p mark) at n)
-  constructs_few (for_loop attrs p head b) at n = one-or-more (loop_turns head at.scopes (bodies head b at n))
-  constructs_few (if_only attrs p c b) at n = one-or-more _
-  constructs_few (if_else attrs p c b d) at n = one-or-more _
+  constructs_few (for_loop attrs p head b) at n =
+      one-or-more (item at (for_loop attrs p head b)) (loop_turns head at.scopes (bodies head b at n))
+      (loop-counts at attrs p head b)
+  constructs_few (if_only attrs p c b) at n = one-or-more (item at (if_only attrs p c b)) _ (if-counts at attrs p c b)
+  constructs_few (if_else attrs p c b d) at n =
+      one-or-more (item at (if_else attrs p c b d)) _ (else-counts at attrs p c b d)
 
   -- the item of a block without `begin`
   single_clean : (b : Bool) (x : Item) (at inside : Place) (n : ℕ) → 0 < n → Follows n (Steps x at n)
@@ -204,7 +211,7 @@ module _ (ms : List Module) (formed : All IsModule ms) (inner : Unfolding) (unfo
     item_clean (always attrs p event s) at n w h z l = ((h, w), tt)
     item_clean (initial attrs p s) at n w h z l = ((h, w), tt)
     item_clean (instance attrs p x) at n w h z l =
-        ((h, w), instance_clean at x h w.1.2 (few-next n (instance_steps ms inner at x) z l))
+        ((h, w), instance_clean at x h w.1.2 (few-next n (item at (instance attrs p x)) (instance_steps all_valued ms inner at x) z l))
     item_clean (generate attrs p mark) at n w h z l = ((h, w), tt)
     item_clean (for_loop attrs p head b) at n w h z l =
         let few : n < 2 ^ 64 = few-start n (Steps (for_loop attrs p head b) at n) l in
@@ -215,17 +222,18 @@ module _ (ms : List Module) (formed : All IsModule ms) (inner : Unfolding) (unfo
               (genvar-turn head at.scopes)
               (λ c t. turn_so b (turn_place at head.variable c) (turn_path at.path label c) w.2
               (turn_clean at.path label c h named t)) (first_turn head at.scopes) (start-turn head at.scopes)
-              (few-next n (loop_turns head at.scopes (bodies head b at n)) z l),
+              (few-next n (item at (for_loop attrs p head b)) (loop_turns head at.scopes (bodies head b at n)) z l),
         )
     item_clean (if_only attrs p c b) at n w h z l = (
       (h, w),
       choice_clean (is_true (constant_operand (constant_in at.scopes) c)) n (block_steps ms inner b at n) []
-          (block_so b at n w.2 h z) (λ k. tt) (few-tail n _ l),
+          (block_so b at n w.2 h z) (λ k. tt) (few-tail n (item at (if_only attrs p c b)) _ l),
     )
     item_clean (if_else attrs p c b d) at n w h z l = (
       (h, w),
       choice_clean (is_true (constant_operand (constant_in at.scopes) c)) n (block_steps ms inner b at n)
-          (block_steps ms inner d at n) (block_so b at n w.3 h z) (block_so d at n w.4 h z) (few-tail n _ l),
+          (block_steps ms inner d at n) (block_so b at n w.3 h z) (block_so d at n w.4 h z)
+          (few-tail n (item at (if_else attrs p c b d)) _ l),
     )
 
     pub items_clean : (xs : Items) (at : Place) (n : ℕ) → AreWellFormed xs → Clean at.path → 0 < n
@@ -240,27 +248,39 @@ module _ (ms : List Module) (formed : All IsModule ms) (inner : Unfolding) (unfo
 
     turn_so : (b : Block) (at : Place) (path : List ℕ) → IsBlock b → Clean path
         → Follows 1 (turn_steps ms inner b at path)
-    turn_so (begin p label xs) at path w h l = items_clean xs (block_place at path xs) 1 w.2 h positive-one l
-    turn_so (region p xs) at path w h l = items_clean xs (block_place at path xs) 1 w.1 h positive-one l
-    turn_so (single x) at path w h l =
-        item_clean x (block_place at path (more_items x no_items)) 1 w.2 h positive-one l
+    turn_so (begin p label xs) at path w h l =
+        (tt, items_clean xs (block_place at path xs) 1 w.2 h positive-one (few-tail 1 (block_step at (begin p label xs)) _ l))
+    turn_so (region p xs) at path w h l =
+        (tt, items_clean xs (block_place at path xs) 1 w.1 h positive-one (few-tail 1 (block_step at (region p xs)) _ l))
+    turn_so (single x) at path w h l = (
+      tt,
+      item_clean x (block_place at path (more_items x no_items)) 1 w.2 h positive-one
+          (few-tail 1 (block_step at (single x)) _ l),
+    )
 
     block_so : (b : Block) (at : Place) (n : ℕ) → IsBlock b → Clean at.path → 0 < n
         → Follows n (block_steps ms inner b at n)
     block_so (begin p label xs) at n w h z l =
-        let path : List ℕ = block_path at (block_name at.names n label) in
-        items_clean xs (block_place at path xs) 1 w.2 (block_clean at n label h (few-start n _ l) w.0) positive-one
-        (few-one n _ z l)
+        let path : List ℕ = block_path at (block_name at.names n label) in (
+          tt,
+          items_clean xs (block_place at path xs) 1 w.2 (block_clean at n label h (few-start n _ l) w.0) positive-one
+              (few-next n (block_step at (begin p label xs)) _ z l),
+        )
     block_so (region p xs) at n w h z l =
-        let path : List ℕ = block_path at (block_name at.names n None) in
-        items_clean xs (block_place at path xs) 1 w.1 (block_clean at n None h (few-start n _ l) tt) positive-one
-        (few-one n _ z l)
+        let path : List ℕ = block_path at (block_name at.names n None) in (
+          tt,
+          items_clean xs (block_place at path xs) 1 w.1 (block_clean at n None h (few-start n _ l) tt) positive-one
+              (few-next n (block_step at (region p xs)) _ z l),
+        )
     block_so (single x) at n w h z l =
         let path : List ℕ = block_path at (block_name at.names n None) in
-        let inside : Place = block_place at path (more_items x no_items) in
-        single_clean (is_if x) x at inside n z (λ k. item_clean x at n w.2 h z k)
-        (λ k. item_clean x inside 1 w.2
-        (block_clean at n None h (few-start n (block_steps ms inner (single x) at n) l) tt) positive-one k) l
+        let inside : Place = block_place at path (more_items x no_items) in (
+          tt,
+          single_clean (is_if x) x at inside n z (λ k. item_clean x at n w.2 h z k)
+              (λ k. item_clean x inside 1 w.2
+              (block_clean at n None h (few-start n (block_steps ms inner (single x) at n) l) tt) positive-one k)
+              (few-tail n (block_step at (single x)) _ l),
+        )
 
 module _ (ms : List Module) (formed : All IsModule ms) where
   pub unfolded_clean : (n : ℕ) → Unfolds (λ m u path modules before. unfolded n ms m u path modules before)

@@ -27,14 +27,14 @@ use Rattle.vl_mean.specs.Runs.{Each}
 use Rattle.vl_mean.specs.Scopes.{Scope, constant_in}
 use Rattle.vl_mean.specs.Walk.{Contents, Place, Use, Step, header, port, with_earlier, module_parameters, header_of}
 use Rattle.vl_mean.specs.Walk.{module_constants, module_around, module_scope, module_contents, module_place}
-use Rattle.vl_mean.specs.Walk.{module_names}
+use Rattle.vl_mean.specs.Walk.{items_contents, module_names}
 use Rattle.vl_mean.specs.Walk.{parameter_names, port_names, written_ports, header_steps, port_step, port_steps}
 use Rattle.vl_mean.specs.Walk.{optional_name, turn_place, block_place}
 use Rattle.vl_mean_flat.proofs.EachOf.{both, front, back, each_map}
 use Rattle.vl_elab_spec.specs.Items.{parameter_refusals, parameters_refusals, range_refusals, width_refusals}
 use Rattle.vl_elab_spec.specs.Items.{given_value, port_net, inner_meanings}
 use Rattle.vl_elab_spec.specs.Meanings.{Meaning, undeclared, constant, Names, is_undeclared, meaning_in, all_meanings}
-use Rattle.vl_elab_spec.specs.Meanings.{constants, meanings_at, parameters_of, is_overridden}
+use Rattle.vl_elab_spec.specs.Meanings.{constants, meanings_at, meanings_before, parameters_of, is_overridden}
 use Rattle.vl_elab_accepted_laws.proofs.Contained.{Has, Lacks, clash, has-first, has-back, or_right, each-has}
 use Rattle.vl_elab_accepted_laws.proofs.Contained.{lacks-append}
 use Rattle.vl_elab_accepted_laws.proofs.Contained.{lacks-each}
@@ -53,7 +53,7 @@ use Rattle.vl_elab_accepted_laws.proofs.Laid.{items_list}
 use Rattle.vl_elab_accepted_laws.specs.Joined.{IsObject, PortsAreObjects}
 use Rattle.vl_elab_accepted_laws.proofs.Constants.{IsNarrow}
 use Rattle.vl_elab_accepted_laws.proofs.Standing.{AreItsConstants, level}
-use Rattle.vl_elab_accepted_laws.proofs.Reached.{AreConstants}
+use Rattle.vl_elab_accepted_laws.proofs.Reached.{AllValued, AreConstants}
 use Rattle.vl_elab_accepted_laws.proofs.Parameters.{ItemsFine, all_constant, parameters_new, fewer}
 use Rattle.vl_elab_accepted_laws.proofs.Shapes.{IsShapedObject, among_bounds, shape_read, ports_shaped, ports_declared}
 use Rattle.vl_elab_accepted_laws.proofs.Shapes.{items_shaped}
@@ -120,7 +120,7 @@ module _ (ms : List Module) where
       s = record { path = path; decls = declared (with_constants cs at.scopes) xs; constants = cs }
 
       c : Contents
-      c = record { overrides = []; parameters = []; ports = []; items = xs }
+      c = items_contents at.earlier xs
 
       around : List Scope
       around = with_constants cs at.scopes
@@ -131,12 +131,12 @@ module _ (ms : List Module) where
       outer_named : AllNamed (meanings_at at)
       outer_named = all_named at.scopes at.contents
 
-      all : AreConstants (own s (meanings_at at) c)
+      all : AreConstants (own s (meanings_before at at.earlier) (meanings_at at) c)
       all =
-          all_constant s at.scopes c at.contents around path (all_names xs) at.modules made outer_named h.sound ms refl []
+          all_constant s at.scopes c at.contents around path (all_names xs) at.modules made outer_named h.sound tt ms refl []
           (parameters_new ms (block_place at path xs) xs fine) fine tt w
 
-      sound_so : AreSound (level s (meanings_at at) c ∷ meanings_at at)
+      sound_so : AreSound (level s (meanings_before at at.earlier) (meanings_at at) c ∷ meanings_at at)
       sound_so =
           scope_sound s at.scopes c at.contents around path (all_names xs) at.modules made outer_named h.sound
           (place_meant at h) all
@@ -255,10 +255,10 @@ module_items_place m u path modules =
     ++ port_names (ports_of m.ports))
 
 pub module_sound : (ms : List Module) (m : Module) (u : Use) (path : List ℕ) (modules : List (List ℕ)) → IsModule m
-    → AreFine ms (header_steps (module_place m u path modules) (module_parameters m))
+    → AllValued u.overrides → AreFine ms (header_steps (module_place m u path modules) (module_parameters m))
     → AreFine ms (port_steps (module_ports_place m u path modules) u None (written_ports m.ports))
     → ItemsFine ms (module_items_place m u path modules) (items m.items) → IsSoundModule m u path modules
-module_sound ms m u path modules w heads ports fine = record {
+module_sound ms m u path modules w valued heads ports fine = record {
   place = record {
     place = record { sound = sound_so; laid = (module_laid m u path, tt) };
     bounds = among_bounds s [] c [] (module_around m u) path (module_names m) within made tt outer_sound meant all;
@@ -294,18 +294,18 @@ module_sound ms m u path modules w heads ports fine = record {
     params_new : Each (Lacks (parameters ++ port_names (ports_of m.ports))) (parameters_of (items m.items))
     params_new = parameters_new ms (module_items_place m u path modules) (items m.items) fine
 
-    all : AreConstants (own s [] c)
+    all : AreConstants (own s [] [] c)
     all =
-        all_constant s [] c [] (module_around m u) path (module_names m) within made tt outer_sound ms
+        all_constant s [] c [] (module_around m u) path (module_names m) within made tt outer_sound valued ms
         (heads_fine ms (module_around m u) (s ∷ []) (c ∷ []) path (module_names m) within (module_parameters m) [] []
         heads)
         (parameters ++ port_names (ports_of m.ports))
         (fewer parameters (port_names (ports_of m.ports)) (parameters_of (items m.items)) params_new) fine
         (header_formed m.parameters w.1) w.4
 
-    narrow : Each (λ p. IsNarrow (level s [] c ∷ []) p.shape.range) (ports_of m.ports)
+    narrow : Each (λ p. IsNarrow (level s [] [] c ∷ []) p.shape.range) (ports_of m.ports)
     narrow =
-        subst (Each (λ p. IsNarrow (level s [] c ∷ []) p.shape.range)) (written_full m.ports)
+        subst (Each (λ p. IsNarrow (level s [] [] c ∷ []) p.shape.range)) (written_full m.ports)
         (ports_narrow ms (module_around m u) (s ∷ []) (c ∷ []) path (module_names m) within
         (shape_read s [] c [] (module_around m u) path (module_names m) within made tt outer_sound meant all) parameters u
         None (written_ports m.ports) tt (written_formed m.ports w.2) ports)
@@ -324,7 +324,7 @@ module_sound ms m u path modules w heads ports fine = record {
         (items_shaped s [] c [] (module_around m u) path (module_names m) within made tt outer_sound meant all ms
         (items m.items) (parameters ++ port_names (ports_of m.ports)) w.4 fine)
 
-    port_meanings_sound : Each (λ n. IsShapedObject n.1) (own_ports s [] c)
+    port_meanings_sound : Each (λ n. IsShapedObject n.1) (own_ports s [] [] c)
     port_meanings_sound =
         ports_sound s [] c [] (module_around m u) path (module_names m) within made tt outer_sound meant all ms
         (of_ports ++ of_items) refl shaped (ports_of m.ports) narrow
@@ -333,17 +333,17 @@ module_sound ms m u path modules w heads ports fine = record {
         (ports_declared s [] c [] (module_around m u) path (module_names m) within made tt outer_sound meant all u.is_top
         u.input (ports_of m.ports)))
 
-    sound_so : AreSound (level s [] c ∷ [])
+    sound_so : AreSound (level s [] [] c ∷ [])
     sound_so =
         scope_sound s [] c [] (module_around m u) path (module_names m) within made tt outer_sound meant all
-        (both (λ n. IsSound n.1) (own_ports s [] c) (own_objects s [] c)
-        (objects_sound (own_ports s [] c) port_meanings_sound)
+        (both (λ n. IsSound n.1) (own_ports s [] [] c) (own_objects s [] [] c)
+        (objects_sound (own_ports s [] [] c) port_meanings_sound)
         (items_sound s [] c [] (module_around m u) path (module_names m) within made tt outer_sound meant all ms
         (of_ports ++ of_items) refl shaped (items m.items) (parameters ++ port_names (ports_of m.ports)) w.4 fine
         (λ text l. declares_back of_ports of_items text l)))
 
     ports_so : (text : List ℕ) → Has (port_names (ports_of m.ports)) text
-        → IsObject (meaning_in (level s [] c ∷ []) text)
+        → IsObject (meaning_in (level s [] [] c ∷ []) text)
     ports_so text h =
         port_object s [] c [] (module_around m u) path (module_names m) within made tt outer_sound meant all
         port_meanings_sound text h

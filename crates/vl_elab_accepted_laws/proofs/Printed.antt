@@ -1,8 +1,7 @@
 -- Full names have neither a blank nor a control byte in them.
-use Rattle.std.specs.Prelude.{◌≡◌, refl, ℕ, ◌+◌, ◌≤◌, nat_lt, List, [], ◌∷◌, ◌++◌, length, Bool, true, false}
-use Rattle.std.specs.Prelude.{◌&&◌, not, Option, Some, None, is_none, All}
-use Rattle.std.proofs.Common.{ap, sym, subst, true≢false, arith}
-use Rattle.std.proofs.lemmas.Bool.Decides.{nat_tests}
+use Rattle.std.specs.Prelude.{◌≡◌, refl, ℕ, ◌+◌, ◌≤◌, List, [], ◌∷◌, ◌++◌, length, Bool, true, false}
+use Rattle.std.specs.Prelude.{◌&&◌, not, All}
+use Rattle.std.proofs.Common.{sym, subst, true≢false, arith}
 use Rattle.std.proofs.lemmas.List.Elements.{All-nil, All-cons}
 use Rattle.vl_tree.specs.declared.declaration.DeclaredName.{DeclaredName}
 use Rattle.vl_tree.specs.declared.declaration.NetKind.TheVariants as net
@@ -16,32 +15,26 @@ use Rattle.vl_size.specs.declared.decl.Class.TheVariants as class
 use Rattle.vl_size.specs.declared.decl.Decl.{Decl}
 use Rattle.vl_mean.specs.Declarations.{class_of_attributes, class_of_kind, declared_by, joined_attributes, port_named}
 use Rattle.vl_mean.specs.Declarations.{ports_of}
-use Rattle.vl_mean.specs.FlatLaw.{is_graphic, nodes}
+use Rattle.vl_mean.specs.FlatLaw.{is_graphic}
 use Rattle.vl_mean.specs.Parts.{Part, declares, equation, combinational, clocked, starts, declares_all, design}
 use Rattle.vl_mean.specs.Parts.{item_parts}
 use Rattle.vl_mean.specs.Parts.{parts_of_steps, port_kind, step_parts, values_of}
 use Rattle.vl_mean.specs.Runs.{Each}
+use Rattle.vl_mean.specs.Walk.{block_step}
 use Rattle.vl_mean.specs.Walk.{Place, Step, header, port, item, override, connection, module_named}
 use Rattle.vl_mean.specs.Walk.{top_input}
 use Rattle.vl_mean.specs.Walk.{walk}
 use Rattle.vl_mean_flat.specs.Flattened.{decls_of}
 use Rattle.vl_mean_flat.proofs.EachOf.{both}
-use Rattle.vl_elab_spec.specs.declared.elab_fault.ElabFault.{ElabFault}
-use Rattle.vl_elab_spec.specs.declared.elab_fault.ElabFault.TheVariants as f
-use Rattle.vl_elab_spec.specs.Counts.{item_nodes, step_nodes, loop_nodes}
-use Rattle.vl_elab_spec.specs.Items.{step_refusals}
-use Rattle.vl_elab_spec.specs.Refused.{Totals, counted, first_refused, is_too_large, lowest, or_later}
-use Rattle.vl_elab_spec.specs.Refused.{refusals_at}
-use Rattle.vl_elab_accepted_laws.proofs.Contained.{or_first}
 use Rattle.vl_elab_accepted_laws.proofs.Declared.{assignments-none, block-none, connection-none, initial-none}
 use Rattle.vl_elab_accepted_laws.proofs.Declared.{integers-under}
 use Rattle.vl_elab_accepted_laws.proofs.Declared.{name_list}
 use Rattle.vl_elab_accepted_laws.proofs.Declared.{optional-none, part-append, part_names, under, values-none}
 use Rattle.vl_elab_accepted_laws.proofs.Declared.{vectors-under}
 use Rattle.vl_elab_accepted_laws.specs.Unrefused.{NoStepRefused}
-use Rattle.vl_elab_accepted_laws.proofs.Fresh.{NoneOf, none-back, not-refused}
 use Rattle.vl_elab_accepted_laws.proofs.Items.{found-module}
-use Rattle.vl_elab_accepted_laws.proofs.Loops.{AreFew}
+use Rattle.vl_elab_accepted_laws.proofs.Loops.{AreFew, weight}
+use Rattle.vl_elab_accepted_laws.proofs.NoneRefused.{walk-counted}
 use Rattle.vl_elab_accepted_laws.proofs.Plain.{all-each}
 use Rattle.vl_elab_accepted_laws.proofs.Texts.{is_free}
 use Rattle.vl_elab_accepted_laws.proofs.Letters.{Clean, clean_both, is_hidden, name_clean}
@@ -95,6 +88,7 @@ step_names_clean (port at u p q) h = (
 )
 step_names_clean (item at x) h = item_names_clean at x h.0 h.1
 step_names_clean (override at m u given x) h = tt
+step_names_clean (block_step at b) h = tt
 step_names_clean (connection at m u inside given x) h =
     none_clean _ (connection-none at.scopes inside (port_named (ports_of m.ports) x.port) x.value)
 
@@ -137,66 +131,12 @@ all_shown : (ds : List Decl) → Each (λ d. Clean d.name) ds → All IsPrinted 
 all_shown [] h = All-nil IsPrinted
 all_shown (d ∷ ds) h = All-cons IsPrinted d ds (shown d.name h.0) (all_shown ds h.1)
 
--- ---- there are few steps
+-- ---- there are few nodes
 
-later-first : (g h : Option ElabFault) → or_later g h ≡ None → g ≡ None
-later-first None h e = refl
-later-first (Some g) h e = e
+walk_few : (ms : List Module) (top : List ℕ) → NoStepRefused ms top → 0 + weight (walk ms top) ≤ 4000000
+walk_few ms top e = (walk-counted ms top e).few
 
-later-second : (g h : Option ElabFault) → or_later g h ≡ None → h ≡ None
-later-second None h e = e
-later-second (Some g) h e = absurd (true≢false (sym (ap is_none e)))
-
-lowest-none : (gs : List ElabFault) → lowest gs ≡ None → NoneOf gs
-lowest-none [] e = refl
-lowest-none (g ∷ gs) e = absurd (true≢false (sym (ap is_none e)))
-
-counted_once : (n : ℕ) → 1 ≤ n + 1
-counted_once n = omega arith
-
-item_counts : (at : Place) (x : Item) → 1 ≤ item_nodes at x
-item_counts at (declaration attrs p d) = omega arith
-item_counts at (integer attrs p xs) = omega arith
-item_counts at (genvar attrs p xs) = omega arith
-item_counts at (parameter attrs p kind xs) = omega arith
-item_counts at (assign attrs p xs) = omega arith
-item_counts at (always attrs p event s) = omega arith
-item_counts at (initial attrs p s) = omega arith
-item_counts at (instance attrs p x) = omega arith
-item_counts at (generate attrs p mark) = omega arith
-item_counts at (for_loop attrs p head b) =
-    counted_once (nodes head.start + loop_nodes head at)
-item_counts at (if_only attrs p c b) = omega arith
-item_counts at (if_else attrs p c b d) = omega arith
-
-step_counts : (x : Step) → 1 ≤ step_nodes x
-step_counts (header at x) = omega arith
-step_counts (port at u p q) = omega arith
-step_counts (item at x) = item_counts at x
-step_counts (override at m u given x) = omega arith
-step_counts (connection at m u inside given x) = omega arith
-
-not_past : (n : ℕ) → nat_lt 4000000 n ≡ false → n ≤ 4000000
-not_past n h = grind (arith, nat_tests)
-
-few_steps : (ms : List Module) (t : Totals) (xs : List Step) → t.nodes ≤ 4000000 → first_refused ms t xs ≡ None
-    → t.nodes + length xs ≤ 4000000
-few_steps ms t [] h e = omega (arith, h)
-few_steps ms t (x ∷ xs) h e =
-    let here : NoneOf (refusals_at ms t x)
-    = lowest-none (refusals_at ms t x) (later-first (lowest (refusals_at ms t x))
-    (first_refused ms (counted t x) xs) e) in
-    let small : is_too_large (counted t x) ≡ false
-    = not-refused (is_too_large (counted t x)) _ (none-back (step_refusals ms x) _ here) in
-    let few : t.nodes + step_nodes x ≤ 4000000 = not_past (t.nodes + step_nodes x) (or_first _ _ small) in
-    let more : t.nodes + step_nodes x + length xs ≤ 4000000 = few_steps ms (counted t x) xs few
-    (later-second (lowest (refusals_at ms t x)) (first_refused ms (counted t x) xs) e) in
-    let one : 1 ≤ step_nodes x = step_counts x in omega (arith, more, one)
-
-walk_few : (ms : List Module) (top : List ℕ) → NoStepRefused ms top → 0 + length (walk ms top) ≤ 4000000
-walk_few ms top e = few_steps ms (record { nodes = 0; names = 0 }) (walk ms top) (omega arith) e
-
-few_of : (xs : List Step) → 0 + length xs ≤ 4000000 → AreFew 1 xs
+few_of : (xs : List Step) → 0 + weight xs ≤ 4000000 → AreFew 1 xs
 few_of xs h = omega arith
 
 -- ---- the design

@@ -1,23 +1,25 @@
 -- What names mean in the value of a parameter: those before it are constants, where none of them is refused.
 use Rattle.std.specs.Prelude.{◌≡◌, refl, ℕ, List, [], ◌∷◌, ◌++◌, map, Bool, true, false, ◌||◌, ◌&&◌, not, bytes_eq}
-use Rattle.std.specs.Prelude.{Option, Some, None, is_none, if◌then◌else◌}
-use Rattle.std.proofs.Common.{ap, sym, ◌∙◌, subst, true≢false}
+use Rattle.std.specs.Prelude.{Option, Some, None, is_none, ◌⊎◌, if◌then◌else◌}
+use Rattle.std.proofs.Common.{ap, sym, ◌∙◌, subst, inl, inr, true≢false}
 use Rattle.vl_tree.specs.declared.declaration.Parameter.{Parameter}
+use Rattle.vl_tree.specs.declared.part.Connection.{Connection}
+use Rattle.vl_tree.specs.Expr.{Expr}
 use Rattle.vl_tree.specs.DeclarationWellFormed.{IsParameter}
 use Rattle.vl_mean.specs.declared.const_number.Const.{Const}
 use Rattle.vl_mean.specs.Cells.{contains_name}
 use Rattle.vl_mean.specs.Constants.{constant_of}
-use Rattle.vl_mean.specs.Declarations.{Overrides}
+use Rattle.vl_mean.specs.Declarations.{Override, Overrides, is_value_or}
 use Rattle.vl_mean.specs.Runs.{Each}
 use Rattle.vl_mean.specs.Scopes.{Scope}
-use Rattle.vl_mean.specs.Walk.{Contents}
-use Rattle.vl_mean_flat.proofs.EachOf.{each_map}
+use Rattle.vl_mean.specs.Walk.{Contents, has_any, override_of, overrides_of}
+use Rattle.vl_mean_flat.proofs.EachOf.{both, each_map}
 use Rattle.vl_elab_spec.specs.Expressions.{expr_refusals}
 use Rattle.vl_elab_spec.specs.Items.{range_refusals, width_refusals, value_context}
 use Rattle.vl_elab_spec.specs.Meanings.{Meaning, undeclared, constant, loop_variable, object, faulty, shapeless, later}
 use Rattle.vl_elab_spec.specs.Meanings.{Names, is_undeclared, meaning_of, meaning_in, value_of, constants, constant_or}
 use Rattle.vl_elab_spec.specs.Meanings.{all_later, not_reached, is_overridden, is_known_parameter, is_known_value}
-use Rattle.vl_elab_spec.specs.Meanings.{is_known_shape}
+use Rattle.vl_elab_spec.specs.Meanings.{is_known_shape, reached}
 use Rattle.vl_elab_accepted_laws.proofs.Contained.{same_text}
 use Rattle.vl_elab_accepted_laws.proofs.Fresh.{NoneOf}
 use Rattle.vl_elab_scope.specs.Seen.{IsNamed, AreNamed, AllNamed}
@@ -30,6 +32,42 @@ use Rattle.vl_elab_accepted_laws.proofs.Standing.{IsThing, AreItsConstants, leve
 use Rattle.vl_elab_accepted_laws.proofs.Standing.{named_own, named_other, not_named, each_found, none_behind}
 use Rattle.vl_elab_accepted_laws.proofs.Standing.{own_listed}
 use Rattle.vl_elab_accepted_laws.proofs.Standing.{Standing}
+
+-- ---- values that are given to parameters
+
+-- each of them has a value
+abbrev pub AllValued : Overrides → Type 0
+AllValued os = Each (λ (o : Override). o.has_value ≡ true) os
+
+value_or : (os : Overrides) (text : List ℕ) (b : Bool) → AllValued os → is_overridden os text ≡ true
+    → is_value_or os text b ≡ true
+value_or [] text b a e = absurd (true≢false (sym e))
+value_or (o ∷ os) text b a e = by (bytes_eq text o.name) (λ h. value_or os text b a.1 h) e
+  where
+    by : (t : Bool) → (is_overridden os text ≡ true → is_value_or os text b ≡ true)
+        → (t || is_overridden os text) ≡ true → (if t then o.has_value else is_value_or os text b) ≡ true
+    by true next h = a.0
+    by false next h = next h
+
+none_or : (os : Overrides) (text : List ℕ) (b : Bool) → is_overridden os text ≡ false → is_value_or os text b ≡ b
+none_or [] text b e = refl
+none_or (o ∷ os) text b e = by (bytes_eq text o.name) (λ h. none_or os text b h) e
+  where
+    by : (t : Bool) → (is_overridden os text ≡ false → is_value_or os text b ≡ b)
+        → (t || is_overridden os text) ≡ false → (if t then o.has_value else is_value_or os text b) ≡ b
+    by true next h = absurd (true≢false h)
+    by false next h = next h
+
+-- where each expression has a value
+pub all_valued_of : (ss : List Scope) (xs : List Connection) → AllValued (overrides_of has_any ss xs)
+all_valued_of ss [] = tt
+all_valued_of ss (x ∷ xs) =
+    both (λ (o : Override). o.has_value ≡ true) (override_of has_any ss x.port x.value) (overrides_of has_any ss xs)
+    (one x.value) (all_valued_of ss xs)
+  where
+    one : (o : Option Expr) → AllValued (override_of has_any ss x.port o)
+    one None = tt
+    one (Some e) = (refl, tt)
 
 abbrev pub IsConstant : Meaning → Type 0
 IsConstant (constant c selected) = Unit {0}
@@ -186,69 +224,136 @@ inner_meaning here here' rest e h = (λ i. if is_undeclared (e i) then rest else
 pub outer_meaning : (here rest : Meaning) → here ≡ undeclared → (if is_undeclared here then rest else here) ≡ rest
 outer_meaning here rest e = ap (λ m. if is_undeclared m then rest else m) e
 
+-- ---- several scopes
+
+-- the same, or one that isn't reached
+abbrev IsOr : Meaning → Meaning → Type 0
+IsOr m k = (m ≡ k) ⊎ (m ≡ later)
+
+-- at a name, what isn't reached is later, and all else stays
+module _ (parameters earlier : List (List ℕ)) where
+  mapped_or : (ns : Names) (text : List ℕ)
+      → IsOr (meaning_of (mapped parameters earlier ns) text) (meaning_of ns text)
+  mapped_or [] text = inl refl
+  mapped_or (n ∷ ns) text =
+      by (is_left parameters earlier n.0) (bytes_eq text n.0) refl refl (mapped_or ns text)
+    where
+      rest : Names
+      rest = mapped parameters earlier ns
+
+      by : (b e : Bool) → is_left parameters earlier n.0 ≡ b → bytes_eq text n.0 ≡ e
+          → IsOr (meaning_of rest text) (meaning_of ns text)
+          → IsOr (meaning_of ((if b then (n.0, later) else n) ∷ rest) text)
+          (if e then n.1 else meaning_of ns text)
+      by true true k q next = inr (ap (λ t. if t then later else meaning_of rest text) q)
+      by false true k q next = inl (ap (λ t. if t then n.1 else meaning_of rest text) q)
+      by true false k q next =
+          subst (λ m. IsOr m (meaning_of ns text)) (sym (ap (λ t. if t then later else meaning_of rest text) q)) next
+      by false false k q next =
+          subst (λ m. IsOr m (meaning_of ns text)) (sym (ap (λ t. if t then n.1 else meaning_of rest text) q)) next
+
+pub reached_named : (cs : List Contents) (earlier : List (List ℕ)) (ns : List Names) → AllNamed ns
+    → AllNamed (reached cs earlier ns)
+reached_named [] earlier ns h = h
+reached_named (c ∷ cs) earlier [] h = h
+reached_named (c ∷ cs) earlier (n ∷ ns) h =
+    (mapped_named (own_names c) earlier n h.0, reached_named cs c.earlier ns h.1)
+
+pub reached_sound : (cs : List Contents) (earlier : List (List ℕ)) (ns : List Names) (text : List ℕ)
+    → IsSound (meaning_in ns text) → IsSound (meaning_in (reached cs earlier ns) text)
+reached_sound [] earlier ns text h = h
+reached_sound (c ∷ cs) earlier [] text h = h
+reached_sound (c ∷ cs) earlier (n ∷ ns) text h =
+    by (mapped_or (own_names c) earlier n text) (reached_sound cs c.earlier ns text)
+  where
+    rest : Meaning
+    rest = meaning_in (reached cs c.earlier ns) text
+
+    here : Meaning
+    here = meaning_of (mapped (own_names c) earlier n) text
+
+    same : (u : Bool) → is_undeclared (meaning_of n text) ≡ u
+        → (IsSound (meaning_in ns text) → IsSound rest)
+        → IsSound (if u then meaning_in ns text else meaning_of n text)
+        → IsSound (if u then rest else meaning_of n text)
+    same true e next k = next k
+    same false e next k = k
+
+    by : (here ≡ meaning_of n text) ⊎ (here ≡ later) → (IsSound (meaning_in ns text) → IsSound rest)
+        → IsSound (if is_undeclared here then rest else here)
+    by (inl e) next =
+        subst (λ m. IsSound (if is_undeclared m then rest else m)) (sym e)
+        (same (is_undeclared (meaning_of n text)) refl next h)
+    by (inr e) next = subst (λ m. IsSound (if is_undeclared m then rest else m)) (sym e) tt
+
 -- ---- in the value of a parameter, and everywhere behind all of them
 
-module _ (s : Scope) (outer : List Names) (c : Contents) (made : AreItsConstants s c) (outer_named : AllNamed outer)
-    (outer_sound : AreSound outer) where
+module _ (s : Scope) (beyond outer : List Names) (c : Contents) (made : AreItsConstants s c)
+    (outer_named : AllNamed outer) (outer_sound : AreSound outer) (beyond_named : AllNamed beyond)
+    (beyond_sound : AreSound beyond) where
   -- the parameters so far, which are those of these names that are there before
   pub record AreSoFar (ns : Names) (earlier : List (List ℕ)) : Type 0 where
     pub all : AreConstants ns
     pub begin : (text : List ℕ) → is_undeclared (meaning_of ns text) ≡ false
-        → own_meaning s outer c text ≡ meaning_of ns text
+        → own_meaning s beyond outer c text ≡ meaning_of ns text
     pub reached : (text : List ℕ) → contains_name (own_names c) text ≡ true → contains_name earlier text ≡ true
         → is_undeclared (meaning_of ns text) ≡ false
 
-  abbrev pub around_now : Names → List Names
-  around_now ns = (ns ++ all_later c) ∷ outer
+  -- within what a parameter uses of the scopes around, and within these
+  abbrev around_in : List Names → Names → List Names
+  around_in out ns = (ns ++ all_later c) ∷ out
 
-  around_own : (ns : Names) (text : List ℕ) → AreConstants ns → is_undeclared (meaning_of ns text) ≡ false
-      → meaning_in (around_now ns) text ≡ meaning_of ns text
-  around_own ns text h k =
-      inner_meaning (meaning_of (ns ++ all_later c) text) (meaning_of ns text) (meaning_in outer text)
+  abbrev pub around_now : Names → List Names
+  around_now ns = around_in beyond ns
+
+  around_own : (out : List Names) (ns : Names) (text : List ℕ) → AreConstants ns → is_undeclared (meaning_of ns text) ≡ false
+      → meaning_in (around_in out ns) text ≡ meaning_of ns text
+  around_own out ns text h k =
+      inner_meaning (meaning_of (ns ++ all_later c) text) (meaning_of ns text) (meaning_in out text)
       (there_append text ns (all_later c) (constants_there ns h)
       ∙ ap (λ b. if b then meaning_of (all_later c) text else meaning_of ns text) k) k
 
-  around_none : (ns : Names) (text : List ℕ) → AreConstants ns → is_undeclared (meaning_of ns text) ≡ true
+  around_none : (out : List Names) (ns : Names) (text : List ℕ) → AreConstants ns → is_undeclared (meaning_of ns text) ≡ true
       → contains_name (own_names c) text ≡ false → contains_name (other_names c) text ≡ false
-      → meaning_in (around_now ns) text ≡ meaning_in outer text
-  around_none ns text h k own other =
-      outer_meaning (meaning_of (ns ++ all_later c) text) (meaning_in outer text)
+      → meaning_in (around_in out ns) text ≡ meaning_in out text
+  around_none out ns text h k own other =
+      outer_meaning (meaning_of (ns ++ all_later c) text) (meaning_in out text)
       (there_append text ns (all_later c) (constants_there ns h)
       ∙ ap (λ b. if b then meaning_of (all_later c) text else meaning_of ns text) k
-      ∙ none_behind s outer c text own other)
+      ∙ none_behind s beyond outer c text own other)
 
   -- how a name is read over what is known, beside how it is read over what is judged
-  pub data Reads (judged : List Names) (ns : Names) (text : List ℕ) : Type 0 where
-    unreached : meaning_in judged text ≡ later → Reads judged ns text
+  pub data Reads (out judged : List Names) (ns : Names) (text : List ℕ) : Type 0 where
+    unreached : meaning_in judged text ≡ later → Reads out judged ns text
     passed : is_undeclared (meaning_of ns text) ≡ false → meaning_in judged text ≡ meaning_of ns text
-        → Reads judged ns text
-    thing : (m : Meaning) → IsThing m → meaning_in judged text ≡ m → Reads judged ns text
-    around : meaning_in judged text ≡ meaning_in outer text
-        → meaning_in (around_now ns) text ≡ meaning_in outer text → Reads judged ns text
+        → Reads out judged ns text
+    thing : (m : Meaning) → IsThing m → meaning_in judged text ≡ m → Reads out judged ns text
+    around : meaning_in judged text ≡ meaning_in out text
+        → meaning_in (around_in out ns) text ≡ meaning_in out text → Reads out judged ns text
 
-  module _ (judged : List Names) (ns : Names) (all : AreConstants ns) (reads : (text : List ℕ) → Reads judged ns text)
-    where
-      pub reads_sure : AreSure judged
-      reads_sure text = by (reads text)
-        where
-          by : Reads judged ns text → IsSure (meaning_in judged text)
-          by (unreached e) = subst IsSure (sym e) tt
-          by (passed k e) =
-              subst IsSure (sym e) (sure_constant (meaning_of ns text) (each_found IsConstant text ns all k))
-          by (thing m h e) = subst IsSure (sym e) (sure_thing m h)
-          by (around e k) = subst IsSure (sym e) (sure_sound (meaning_in outer text) (outer_sound text))
+  module _ (out : List Names) (sound : AreSound out) (judged : List Names) (ns : Names) (all : AreConstants ns)
+      (reads : (text : List ℕ) → Reads out judged ns text) where
+    pub reads_sure : AreSure judged
+    reads_sure text = by (reads text)
+      where
+        by : Reads out judged ns text → IsSure (meaning_in judged text)
+        by (unreached e) = subst IsSure (sym e) tt
+        by (passed k e) =
+            subst IsSure (sym e) (sure_constant (meaning_of ns text) (each_found IsConstant text ns all k))
+        by (thing m h e) = subst IsSure (sym e) (sure_thing m h)
+        by (around e k) = subst IsSure (sym e) (sure_sound (meaning_in out text) (sound text))
 
-      pub reads_among : AreAmong (constants judged) (constants (around_now ns))
-      reads_among text k h = by (reads text)
-        where
-          absent : None ≡ Some k → ⊥
-          absent e = cc
+    pub reads_among : AreAmong (constants judged) (constants (around_in out ns))
+    reads_among text k h = by (reads text)
+      where
+        absent : None ≡ Some k → ⊥
+        absent e = cc
 
-          by : Reads judged ns text → value_of (meaning_in (around_now ns) text) ≡ Some k
-          by (unreached e) = absurd (absent (sym (ap value_of e) ∙ h))
-          by (passed d e) = ap value_of (around_own ns text all d ∙ sym e) ∙ h
-          by (thing m d e) = absurd (no_value m k d (sym (ap value_of e) ∙ h))
-          by (around e d) = ap value_of (d ∙ sym e) ∙ h
+        by : Reads out judged ns text → value_of (meaning_in (around_in out ns) text) ≡ Some k
+        by (unreached e) = absurd (absent (sym (ap value_of e) ∙ h))
+        by (passed d e) = ap value_of (around_own out ns text all d ∙ sym e) ∙ h
+        by (thing m d e) = absurd (no_value m k d (sym (ap value_of e) ∙ h))
+        by (around e d) = ap value_of (d ∙ sym e) ∙ h
 
   not_declared : (b : Bool) → (b ≡ false → ⊥) → b ≡ true
   not_declared true h = refl
@@ -257,65 +362,65 @@ module _ (s : Scope) (outer : List Names) (c : Contents) (made : AreItsConstants
   -- ---- before a parameter
 
   abbrev pub before : List (List ℕ) → List Names
-  before earlier = map (not_reached (own_names c) earlier) (level s outer c) ∷ outer
+  before earlier = map (not_reached (own_names c) earlier) (level s beyond outer c) ∷ beyond
 
   pub before_named : (earlier : List (List ℕ)) → AllNamed (before earlier)
   before_named earlier =
-      (mapped_named (own_names c) earlier (level s outer c) (level_named s outer c), outer_named)
+      (mapped_named (own_names c) earlier (level s beyond outer c) (level_named s beyond outer c), beyond_named)
 
   module _ (ns : Names) (earlier : List (List ℕ)) (h : AreSoFar ns earlier) where
-    reads_before : (text : List ℕ) → Reads (before earlier) ns text
-    reads_before text = by (standing s outer c made text) (contains_name earlier text) refl
+    reads_before : (text : List ℕ) → Reads beyond (before earlier) ns text
+    reads_before text = by (standing s beyond outer c made text) (contains_name earlier text) refl
       where
         kept : contains_name (own_names c) text ≡ false
-            → meaning_of (mapped (own_names c) earlier (level s outer c)) text ≡ meaning_of (level s outer c) text
+            → meaning_of (mapped (own_names c) earlier (level s beyond outer c)) text ≡ meaning_of (level s beyond outer c) text
         kept e =
-            mapped_kept (own_names c) earlier (level s outer c) text
+            mapped_kept (own_names c) earlier (level s beyond outer c) text
             (ap (λ b. b && not (contains_name earlier text)) e)
 
-        none_so_far : is_undeclared (own_meaning s outer c text) ≡ true → is_undeclared (meaning_of ns text) ≡ true
+        none_so_far : is_undeclared (own_meaning s beyond outer c text) ≡ true → is_undeclared (meaning_of ns text) ≡ true
         none_so_far e =
             not_declared (is_undeclared (meaning_of ns text))
             (λ d. true≢false (sym e ∙ ap is_undeclared (h.begin text d) ∙ d))
 
-        by : Standing s outer c text → (b : Bool) → contains_name earlier text ≡ b → Reads (before earlier) ns text
+        by : Standing s beyond outer c text → (b : Bool) → contains_name earlier text ≡ b → Reads beyond (before earlier) ns text
         by (named_own own d is) true e =
             let there = h.reached text own e in
             passed there
-            (inner_meaning (meaning_of (mapped (own_names c) earlier (level s outer c)) text) (meaning_of ns text)
-            (meaning_in outer text)
-            (mapped_kept (own_names c) earlier (level s outer c) text
+            (inner_meaning (meaning_of (mapped (own_names c) earlier (level s beyond outer c)) text) (meaning_of ns text)
+            (meaning_in beyond text)
+            (mapped_kept (own_names c) earlier (level s beyond outer c) text
             (λ i. own i && not (e i)) ∙ is ∙ h.begin text there) there)
         by (named_own own d is) false e =
             unreached
-            (inner_meaning (meaning_of (mapped (own_names c) earlier (level s outer c)) text) later
-            (meaning_in outer text)
-            (mapped_later (own_names c) earlier (level s outer c) text (λ i. own i && not (e i))
+            (inner_meaning (meaning_of (mapped (own_names c) earlier (level s beyond outer c)) text) later
+            (meaning_in beyond text)
+            (mapped_later (own_names c) earlier (level s beyond outer c) text (λ i. own i && not (e i))
             (ap is_undeclared is ∙ d)) refl)
         by (named_other own d is_thing is) b e =
-            thing (other_meaning s outer c text) is_thing
-            (inner_meaning (meaning_of (mapped (own_names c) earlier (level s outer c)) text)
-            (other_meaning s outer c text) (meaning_in outer text) (kept own ∙ is) d)
+            thing (other_meaning s beyond outer c text) is_thing
+            (inner_meaning (meaning_of (mapped (own_names c) earlier (level s beyond outer c)) text)
+            (other_meaning s beyond outer c text) (meaning_in beyond text) (kept own ∙ is) d)
         by (not_named own other d is) b e =
             around
-            (outer_meaning (meaning_of (mapped (own_names c) earlier (level s outer c)) text) (meaning_in outer text)
+            (outer_meaning (meaning_of (mapped (own_names c) earlier (level s beyond outer c)) text) (meaning_in beyond text)
             (kept own ∙ is))
-            (around_none ns text h.all (none_so_far d) own other)
+            (around_none beyond ns text h.all (none_so_far d) own other)
 
     before_sure : AreSure (before earlier)
-    before_sure = reads_sure (before earlier) ns h.all reads_before
+    before_sure = reads_sure beyond beyond_sound (before earlier) ns h.all reads_before
 
     before_among : AreAmong (constants (before earlier)) (constants (around_now ns))
-    before_among = reads_among (before earlier) ns h.all reads_before
+    before_among = reads_among beyond beyond_sound (before earlier) ns h.all reads_before
 
     -- what is judged of a parameter
-    pub known_parameter : (os : Overrides) (x : Parameter) → IsParameter x
+    pub known_parameter : (os : Overrides) (x : Parameter) → AllValued os → IsParameter x
         → NoneOf (range_refusals (before earlier) x.shape.range)
         → NoneOf (width_refusals (before earlier) x.pos x.shape.range)
         → NoneOf (if is_overridden os x.name then []
         else expr_refusals (before earlier) true (value_context (before earlier) x.shape.range x.value) x.value)
         → is_known_parameter os (around_now ns) x ≡ true
-    known_parameter os x w ranges widths value = by (is_overridden os x.name) refl value
+    known_parameter os x all_have w ranges widths value = by (is_overridden os x.name) refl value
       where
         narrow : IsNarrow (before earlier) x.shape.range
         narrow =
@@ -331,33 +436,33 @@ module _ (s : Scope) (outer : List Names) (c : Contents) (made : AreItsConstants
             else expr_refusals (before earlier) true (value_context (before earlier) x.shape.range x.value) x.value)
             → is_known_parameter os (around_now ns) x ≡ true
         by true e v =
-            λ i. (e i || is_known_value (around_now ns) x.shape.range x.value) && shape i
+            λ i. value_or os x.name (is_known_value (around_now ns) x.shape.range x.value) all_have e i && shape i
         by false e v =
             let there = value_there (before earlier) (before_named earlier) before_sure (around_now ns) before_among
             x.shape.range x.value w.2 narrow v in
-            λ i. (e i || there i) && shape i
+            λ i. (none_or os x.name (is_known_value (around_now ns) x.shape.range x.value) e ∙ there) i && shape i
 
   -- ---- behind all of them
 
-  module _ (all : AreConstants (own s outer c)) where
-    reads_behind : (text : List ℕ) → Reads (level s outer c ∷ outer) (own s outer c) text
-    reads_behind text = by (standing s outer c made text)
+  module _ (all : AreConstants (own s beyond outer c)) where
+    reads_behind : (text : List ℕ) → Reads outer (level s beyond outer c ∷ outer) (own s beyond outer c) text
+    reads_behind text = by (standing s beyond outer c made text)
       where
-        by : Standing s outer c text → Reads (level s outer c ∷ outer) (own s outer c) text
+        by : Standing s beyond outer c text → Reads outer (level s beyond outer c ∷ outer) (own s beyond outer c) text
         by (named_own is_own d is) =
             passed d
-            (inner_meaning (meaning_of (level s outer c) text) (own_meaning s outer c text) (meaning_in outer text)
+            (inner_meaning (meaning_of (level s beyond outer c) text) (own_meaning s beyond outer c text) (meaning_in outer text)
             is d)
         by (named_other is_own d is_thing is) =
-            thing (other_meaning s outer c text) is_thing
-            (inner_meaning (meaning_of (level s outer c) text) (other_meaning s outer c text) (meaning_in outer text)
+            thing (other_meaning s beyond outer c text) is_thing
+            (inner_meaning (meaning_of (level s beyond outer c) text) (other_meaning s beyond outer c text) (meaning_in outer text)
             is d)
         by (not_named is_own other d is) =
-            around (outer_meaning (meaning_of (level s outer c) text) (meaning_in outer text) is)
-            (around_none (own s outer c) text all d is_own other)
+            around (outer_meaning (meaning_of (level s beyond outer c) text) (meaning_in outer text) is)
+            (around_none outer (own s beyond outer c) text all d is_own other)
 
-    pub behind_sure : AreSure (level s outer c ∷ outer)
-    behind_sure = reads_sure (level s outer c ∷ outer) (own s outer c) all reads_behind
+    pub behind_sure : AreSure (level s beyond outer c ∷ outer)
+    behind_sure = reads_sure outer outer_sound (level s beyond outer c ∷ outer) (own s beyond outer c) all reads_behind
 
-    pub behind_among : AreAmong (constants (level s outer c ∷ outer)) (constants (around_now (own s outer c)))
-    behind_among = reads_among (level s outer c ∷ outer) (own s outer c) all reads_behind
+    pub behind_among : AreAmong (constants (level s beyond outer c ∷ outer)) (constants (around_in outer (own s beyond outer c)))
+    behind_among = reads_among outer outer_sound (level s beyond outer c ∷ outer) (own s beyond outer c) all reads_behind

@@ -1,6 +1,6 @@
 -- The full names that the items of a scope, its blocks and its instances declare differ.
 use Rattle.std.specs.Prelude.{◌≡◌, refl, ℕ, ◌+◌, ◌<◌, ◌≤◌, ◌^◌, List, [], ◌∷◌}
-use Rattle.std.specs.Prelude.{◌++◌, length, codes}
+use Rattle.std.specs.Prelude.{◌++◌, codes}
 use Rattle.std.specs.Prelude.{Bool, true, false, Option, None, option_to_list, All, if◌then◌else◌}
 use Rattle.std.proofs.Common.{sym, ◌∙◌, subst, inl, inr, ⊎_elim}
 use Rattle.vl_tree.specs.declared.part.LoopHead.{LoopHead}
@@ -38,6 +38,8 @@ use Rattle.vl_mean.specs.Declarations.{names_of, labels_of, all_names, construct
 use Rattle.vl_mean.specs.Declarations.{block_name, unlabelled}
 use Rattle.vl_mean.specs.Runs.{Each}
 use Rattle.vl_mean.specs.Scopes.{constant_in}
+use Rattle.vl_mean.specs.Walk.{block_step}
+use Rattle.vl_mean.specs.Walk.{has_any}
 use Rattle.vl_mean.specs.Walk.{Place, Use, Step, Unfolding, item, connections_of, use_of, goes_on}
 use Rattle.vl_mean.specs.Walk.{override_steps, connection_steps, module_scope, loop_turns, next_turn, first_turn}
 use Rattle.vl_mean.specs.Walk.{turn_place, turn_path, block_place, block_path, item_steps, items_steps, turn_steps}
@@ -55,7 +57,7 @@ use Rattle.vl_elab_accepted_laws.proofs.Items.{good-objects, good-nothing, front
 use Rattle.vl_elab_accepted_laws.proofs.Items.{label-head}
 use Rattle.vl_elab_accepted_laws.proofs.Items.{label-named, loop-head, if-names, self, genvar-turn, start-turn}
 use Rattle.vl_elab_accepted_laws.proofs.Loops.{IsClear, AreClear, AreFew, few-front, few-start, few-tail, few-one}
-use Rattle.vl_elab_accepted_laws.proofs.Loops.{few-next}
+use Rattle.vl_elab_accepted_laws.proofs.Loops.{else-counts, few-next, if-counts, loop-counts, weight}
 use Rattle.vl_elab_accepted_laws.proofs.Loops.{few-rest}
 use Rattle.vl_elab_accepted_laws.proofs.Loops.{none-or-more, one-or-more, positive-sum, positive-one, good-turns}
 use Rattle.vl_elab_accepted_laws.proofs.Loops.{later-under}
@@ -115,7 +117,7 @@ module _ (ms : List Module) (formed : All IsModule ms) (inner : Unfolding) (give
   first-clear (if_only attrs p c b) at n h = h.0
   first-clear (if_else attrs p c b d) at n h = h.0
 
-  constructs-few : (x : Item) (at : Place) (n : ℕ) → constructs x ≤ length (Steps x at n)
+  constructs-few : (x : Item) (at : Place) (n : ℕ) → constructs x ≤ weight (Steps x at n)
   constructs-few (declaration attrs p d) at n = none-or-more (Steps (declaration attrs p d) at n)
   constructs-few (integer attrs p xs) at n = none-or-more (Steps (integer attrs p xs) at n)
   constructs-few (genvar attrs p xs) at n = none-or-more (Steps (genvar attrs p xs) at n)
@@ -125,9 +127,12 @@ module _ (ms : List Module) (formed : All IsModule ms) (inner : Unfolding) (give
   constructs-few (initial attrs p s) at n = none-or-more (Steps (initial attrs p s) at n)
   constructs-few (instance attrs p x) at n = none-or-more (Steps (instance attrs p x) at n)
   constructs-few (generate attrs p mark) at n = none-or-more (Steps (generate attrs p mark) at n)
-  constructs-few (for_loop attrs p head b) at n = one-or-more (loop_turns head at.scopes (bodies head b at n))
-  constructs-few (if_only attrs p c b) at n = one-or-more _
-  constructs-few (if_else attrs p c b d) at n = one-or-more _
+  constructs-few (for_loop attrs p head b) at n =
+      one-or-more (item at (for_loop attrs p head b)) (loop_turns head at.scopes (bodies head b at n))
+      (loop-counts at attrs p head b)
+  constructs-few (if_only attrs p c b) at n = one-or-more (item at (if_only attrs p c b)) _ (if-counts at attrs p c b)
+  constructs-few (if_else attrs p c b d) at n =
+      one-or-more (item at (if_else attrs p c b d)) _ (else-counts at attrs p c b d)
 
   good-choice : (c : Bool) (P : List ℕ → Type 0) (n : ℕ) (xs ys : List Step)
       → (AreClear ms xs → AreFew n xs → Good P (full_names xs))
@@ -189,7 +194,7 @@ module _ (ms : List Module) (formed : All IsModule ms) (inner : Unfolding) (give
     good-item (always attrs p event s) at n w z l h = good-nothing ms _ at (always attrs p event s) refl
     good-item (initial attrs p s) at n w z l h = good-nothing ms _ at (initial attrs p s) refl
     good-item (instance attrs p x) at n w z l h =
-        let u : Use = use_of at.scopes x in
+        let u : Use = use_of has_any at.scopes x in
         let inside : List ℕ = at.path ++ x.name ++ codes "." in
         let before : Module → List Step = λ m. override_steps at m u [] (connections_of x.overrides)
         ++ connection_steps at m u (module_scope m u inside ∷ []) [] x.connections in
@@ -198,17 +203,17 @@ module _ (ms : List Module) (formed : All IsModule ms) (inner : Unfolding) (give
         (λ m f h l.
         given m u inside at.modules (before m) f
         (front-none at m u (module_scope m u inside ∷ []) (connections_of x.overrides) x.connections) h l) h.1
-        (few-next n _ z l))
+        (few-next n (item at (instance attrs p x)) _ z l))
     good-item (generate attrs p mark) at n w z l h = good-none _
     good-item (for_loop attrs p head b) at n w z l h =
         good-loop attrs p head b at n w.1 (label-named b w.2) (few-start n (Steps (for_loop attrs p head b) at n) l) h.0
         (λ c path h l. good-turn b (turn_place at head.variable c) path w.2 l h) h.1
-        (few-next n (loop_turns head at.scopes (bodies head b at n)) z l)
+        (few-next n (item at (for_loop attrs p head b)) (loop_turns head at.scopes (bodies head b at n)) z l)
     good-item (if_only attrs p c b) at n w z l h =
         good-choice (is_true (constant_operand (constant_in at.scopes) c)) _ n (block_steps ms inner b at n) []
         (λ h l. good-map (of-block at.path at.names b (if_only attrs p c b) n refl (λ m a. a))
         (full_names (block_steps ms inner b at n)) (good-block b at n w.2 z l h)) (λ h l. good-none _) h.1
-        (few-tail n _ l)
+        (few-tail n (item at (if_only attrs p c b)) _ l)
     good-item (if_else attrs p c b d) at n w z l h =
         good-choice (is_true (constant_operand (constant_in at.scopes) c)) _ n (block_steps ms inner b at n)
         (block_steps ms inner d at n)
@@ -218,7 +223,7 @@ module _ (ms : List Module) (formed : All IsModule ms) (inner : Unfolding) (give
         (λ h l. good-map (of-block at.path at.names d (if_else attrs p c b d) n refl
         (λ m a. has-back (block_labels b) (block_labels d) m a))
         (full_names (block_steps ms inner d at n)) (good-block d at n w.4 z l h)) h.1
-        (few-tail n _ l)
+        (few-tail n (item at (if_else attrs p c b d)) _ l)
 
     pub good-items : (xs : Items) (at : Place) (n : ℕ) → AreWellFormed xs → Each (Has at.names) (all_names xs)
         → 0 < n
@@ -249,13 +254,16 @@ module _ (ms : List Module) (formed : All IsModule ms) (inner : Unfolding) (give
         → Good (Under path Any) (full_names (turn_steps ms inner b at path))
     good-turn (begin p label xs) at path w l h =
         good-map (under-map path (λ h p. tt)) _
-        (good-items xs (block_place at path xs) 1 w.2 (self (all_names xs)) positive-one l h)
+        (good-items xs (block_place at path xs) 1 w.2 (self (all_names xs)) positive-one
+        (few-tail 1 (block_step at (begin p label xs)) _ l) h.1)
     good-turn (region p xs) at path w l h =
         good-map (under-map path (λ h p. tt)) _
-        (good-items xs (block_place at path xs) 1 w.1 (self (all_names xs)) positive-one l h)
+        (good-items xs (block_place at path xs) 1 w.1 (self (all_names xs)) positive-one
+        (few-tail 1 (block_step at (region p xs)) _ l) h.1)
     good-turn (single x) at path w l h =
         good-map (under-map path (λ h p. tt)) _
-        (good-item x (block_place at path (more_items x no_items)) 1 w.2 positive-one l h)
+        (good-item x (block_place at path (more_items x no_items)) 1 w.2 positive-one
+        (few-tail 1 (block_step at (single x)) _ l) h.1)
 
     good-block : (b : Block) (at : Place) (n : ℕ) → IsBlock b → 0 < n → AreFew n (block_steps ms inner b at n)
         → AreClear ms (block_steps ms inner b at n)
@@ -263,11 +271,11 @@ module _ (ms : List Module) (formed : All IsModule ms) (inner : Unfolding) (give
     good-block (begin p label xs) at n w z l h =
         good-map (in-block at.path at.names (begin p label xs) n label (few-start n _ l) w.0 refl) _
         (good-items xs (block_place at (block_path at (block_name at.names n label)) xs) 1 w.2 (self (all_names xs))
-        positive-one (few-one n _ z l) h)
+        positive-one (few-next n (block_step at (begin p label xs)) _ z l) h.1)
     good-block (region p xs) at n w z l h =
         good-map (in-block at.path at.names (region p xs) n None (few-start n _ l) tt refl) _
         (good-items xs (block_place at (block_path at (block_name at.names n None)) xs) 1 w.1 (self (all_names xs))
-        positive-one (few-one n _ z l) h)
+        positive-one (few-next n (block_step at (region p xs)) _ z l) h.1)
     good-block (single x) at n w z l h =
         let path : List ℕ = block_path at (block_name at.names n None) in
         let inside : Place = block_place at path (more_items x no_items) in
@@ -275,4 +283,4 @@ module _ (ms : List Module) (formed : All IsModule ms) (inner : Unfolding) (give
         good-single (is_if x) x at inside (Under at.path (BlockHead at.names (single x) n)) n refl z
         (λ e h l. good-map (under-map at.path (λ m p. directly at.names x n m e p)) _ (good-item x at n w.2 z l h))
         (λ e h l. good-map (in-block at.path at.names (single x) n None few tt (no_labels x e)) _
-        (good-item x inside 1 w.2 positive-one l h)) h l
+        (good-item x inside 1 w.2 positive-one l h)) h.1 (few-tail n (block_step at (single x)) _ l)

@@ -40,6 +40,7 @@ use Rattle.vl_elab_spec.specs.Meanings.{Names, is_undeclared, meaning_of, meanin
 use Rattle.vl_elab_spec.specs.Meanings.{all_meanings, is_known_range, is_known_shape, declared_width, may_have_words}
 use Rattle.vl_elab_spec.specs.Meanings.{port_meanings, name_meanings, item_meanings, items_meanings, role_of_kind}
 use Rattle.vl_elab_spec.specs.Meanings.{role_of_port}
+use Rattle.vl_elab_spec.specs.Meanings.{reached}
 use Rattle.vl_elab_accepted_laws.proofs.Contained.{Has, Lacks, clash, or_right, text_same, has-front, has-back}
 use Rattle.vl_elab_accepted_laws.proofs.Contained.{lacks-front}
 use Rattle.vl_elab_accepted_laws.proofs.Fresh.{NoneOf, none-front, none-back, not-refused}
@@ -62,6 +63,7 @@ use Rattle.vl_elab_accepted_laws.proofs.Standing.{standing, level}
 use Rattle.vl_elab_accepted_laws.proofs.Standing.{own_meaning, other_meaning, each_found}
 use Rattle.vl_elab_accepted_laws.proofs.Reached.{AreConstants, IsConstant, AreThere, there_append, behind_sure}
 use Rattle.vl_elab_accepted_laws.proofs.Reached.{behind_among}
+use Rattle.vl_elab_accepted_laws.proofs.Reached.{reached_named, reached_sound}
 use Rattle.vl_elab_accepted_laws.proofs.Reached.{inner_meaning, outer_meaning, no_value}
 use Rattle.vl_elab_accepted_laws.proofs.Parameters.{ItemsFine, at}
 
@@ -203,12 +205,22 @@ objects_listed text (n ∷ ns) h k = by (bytes_eq text n.0) k (objects_listed te
 module _ (s : Scope) (ss : List Scope) (c : Contents) (cs : List Contents) (around : List Scope) (path : List ℕ)
     (names modules : List (List ℕ)) (made : AreItsConstants s c) (outer_named : AllNamed (all_meanings ss cs))
     (outer_sound : AreSound (all_meanings ss cs)) (meant : AreMeant (all_meanings ss cs) ss)
-    (all : AreConstants (own s (all_meanings ss cs) c)) where
+    (all : AreConstants (own s (reached cs c.earlier (all_meanings ss cs)) (all_meanings ss cs) c)) where
   abbrev outer : List Names
   outer = all_meanings ss cs
 
+  -- what is reached of the scopes around
+  abbrev beyond : List Names
+  beyond = reached cs c.earlier outer
+
+  beyond_named : AllNamed beyond
+  beyond_named = reached_named cs c.earlier outer outer_named
+
+  beyond_sound : AreSound beyond
+  beyond_sound text = reached_sound cs c.earlier outer text (outer_sound text)
+
   abbrev ns : List Names
-  ns = level s outer c ∷ outer
+  ns = level s beyond outer c ∷ outer
 
   abbrev pub place : List (List ℕ) → Place
   place earlier = at s ss c cs around path names modules made outer_named outer_sound earlier
@@ -218,31 +230,31 @@ module _ (s : Scope) (ss : List Scope) (c : Contents) (cs : List Contents) (arou
   bounds = with_constants s.constants ss
 
   abbrev known_names : List Names
-  known_names = around_own s outer c
+  known_names = around_own s beyond outer c
 
   among_known : AreAmong (constants ns) (constants known_names)
-  among_known = behind_among s outer c made outer_named outer_sound all
+  among_known = behind_among s beyond outer c made outer_named outer_sound beyond_named beyond_sound all
 
   named : AllNamed ns
-  named = (level_named s outer c, outer_named)
+  named = (level_named s beyond outer c, outer_named)
 
   pub among_bounds : AreAmong (constants ns) (constant_in bounds)
-  among_bounds text k h = by (standing s outer c made text)
+  among_bounds text k h = by (standing s beyond outer c made text)
     where
-      by : Standing s outer c text
+      by : Standing s beyond outer c text
           → constant_unless (constant_of s.constants text) false (constant_in ss text) ≡ Some k
       by (named_own is_own d is) =
-          let e = inner_meaning (meaning_of (level s outer c) text) (own_meaning s outer c text)
+          let e = inner_meaning (meaning_of (level s beyond outer c) text) (own_meaning s beyond outer c text)
           (meaning_in outer text) is d in
           ap (λ o. constant_unless o false (constant_in ss text))
-          (found_constant s text (own_meaning s outer c text) k
-          (entry_found s text (own s outer c) (own_parameters s outer c).entries) (sym (ap value_of e) ∙ h))
+          (found_constant s text (own_meaning s beyond outer c text) k
+          (entry_found s text (own s beyond outer c) (own_parameters s beyond outer c).entries) (sym (ap value_of e) ∙ h))
       by (named_other is_own d is_thing is) =
-          let e = inner_meaning (meaning_of (level s outer c) text) (other_meaning s outer c text)
+          let e = inner_meaning (meaning_of (level s beyond outer c) text) (other_meaning s beyond outer c text)
           (meaning_in outer text) is d in
-          absurd (no_value (other_meaning s outer c text) k is_thing (sym (ap value_of e) ∙ h))
+          absurd (no_value (other_meaning s beyond outer c text) k is_thing (sym (ap value_of e) ∙ h))
       by (not_named is_own other d is) =
-          let e = outer_meaning (meaning_of (level s outer c) text) (meaning_in outer text) is in
+          let e = outer_meaning (meaning_of (level s beyond outer c) text) (meaning_in outer text) is in
           ap (λ o. constant_unless o false (constant_in ss text)) (made.alone text is_own)
           ∙ meant_constant ss text (meaning_in outer text) k (meant text) (sym (ap value_of e) ∙ h)
 
@@ -250,11 +262,11 @@ module _ (s : Scope) (ss : List Scope) (c : Contents) (cs : List Contents) (arou
 
   pub shape_read : (p : Pos) (r : Option Range) → IsOptionalRange r → NoneOf (range_refusals ns r)
       → NoneOf (width_refusals ns p r) → IsNarrow ns r
-  shape_read p r w h k = shape_known ns named (behind_sure s outer c made outer_named outer_sound all) p r w h k
+  shape_read p r w h k = shape_known ns named (behind_sure s beyond outer c made outer_named outer_sound beyond_named beyond_sound all) p r w h k
 
   pub shape_so : (r : Option Range) → IsNarrow ns r → is_known_shape known_names r ≡ true
   shape_so r h =
-      shape_there ns named (behind_sure s outer c made outer_named outer_sound all) known_names among_known r h
+      shape_there ns named (behind_sure s beyond outer c made outer_named outer_sound beyond_named beyond_sound all) known_names among_known r h
 
   width_is : (r : Option Range) → is_known_range ns r ≡ true
       → span (vector_bounds bounds r).0 (vector_bounds bounds r).1 ≡ declared_width ns r
@@ -337,8 +349,8 @@ module _ (s : Scope) (ss : List Scope) (c : Contents) (cs : List Contents) (arou
         record {
           narrow = shape_read x.pos shape wr r
               (none-back (range_refusals ns x.words) (width_refusals ns x.pos shape) sizes);
-          words = range_there ns named (behind_sure s outer c made outer_named outer_sound all) known_names among_known
-              x.words (range_known ns named (behind_sure s outer c made outer_named outer_sound all) x.words w.0.1
+          words = range_there ns named (behind_sure s beyond outer c made outer_named outer_sound beyond_named beyond_sound all) known_names among_known
+              x.words (range_known ns named (behind_sure s beyond outer c made outer_named outer_sound beyond_named beyond_sound all) x.words w.0.1
               (none-front (range_refusals ns x.words) (width_refusals ns x.pos shape) sizes));
           may = allowed (may_have_words k x.words x.value) _
               (none-back (range_refusals ns x.words ++ width_refusals ns x.pos shape) _ front);
@@ -474,43 +486,43 @@ module _ (s : Scope) (ss : List Scope) (c : Contents) (cs : List Contents) (arou
 
   -- ---- the whole scope
 
-  module _ (sound : Each (λ n. IsSound n.1) (ports s outer c ++ objects s outer c)) where
+  module _ (sound : Each (λ n. IsSound n.1) (ports s beyond outer c ++ objects s beyond outer c)) where
     pub scope_sound : AreSound ns
-    scope_sound text = by (standing s outer c made text)
+    scope_sound text = by (standing s beyond outer c made text)
       where
-        by : Standing s outer c text → IsSound (meaning_in ns text)
+        by : Standing s beyond outer c text → IsSound (meaning_in ns text)
         by (named_own is_own d is) =
-            subst IsSound (sym (inner_meaning (meaning_of (level s outer c) text) (own_meaning s outer c text)
+            subst IsSound (sym (inner_meaning (meaning_of (level s beyond outer c) text) (own_meaning s beyond outer c text)
             (meaning_in outer text) is d))
-            (sound_constant (own_meaning s outer c text) (each_found IsConstant text (own s outer c) all d))
+            (sound_constant (own_meaning s beyond outer c text) (each_found IsConstant text (own s beyond outer c) all d))
         by (named_other is_own d is_thing is) =
-            subst IsSound (sym (inner_meaning (meaning_of (level s outer c) text) (other_meaning s outer c text)
+            subst IsSound (sym (inner_meaning (meaning_of (level s beyond outer c) text) (other_meaning s beyond outer c text)
             (meaning_in outer text) is d))
-            (each_found IsSound text (ports s outer c ++ objects s outer c) sound d)
+            (each_found IsSound text (ports s beyond outer c ++ objects s beyond outer c) sound d)
         by (not_named is_own other d is) =
-            subst IsSound (sym (outer_meaning (meaning_of (level s outer c) text) (meaning_in outer text) is))
+            subst IsSound (sym (outer_meaning (meaning_of (level s beyond outer c) text) (meaning_in outer text) is))
             (outer_sound text)
 
   -- a port that no parameter has the name of
-  pub port_object : Each (λ n. IsShapedObject n.1) (ports s outer c) → (text : List ℕ) → Has (port_names c.ports) text
+  pub port_object : Each (λ n. IsShapedObject n.1) (ports s beyond outer c) → (text : List ℕ) → Has (port_names c.ports) text
       → Lacks (own_names c) text → IsObject (meaning_in ns text)
-  port_object sound text h l = by (standing s outer c made text)
+  port_object sound text h l = by (standing s beyond outer c made text)
     where
-      listed_port : is_undeclared (meaning_of (ports s outer c) text) ≡ false
+      listed_port : is_undeclared (meaning_of (ports s beyond outer c) text) ≡ false
       listed_port =
-          objects_listed text (ports s outer c) sound
+          objects_listed text (ports s beyond outer c) sound
           (ap (λ l. contains_name l text) (port_list s outer [] known_names c.ports) ∙ h)
 
-      first_port : other_meaning s outer c text ≡ meaning_of (ports s outer c) text
+      first_port : other_meaning s beyond outer c text ≡ meaning_of (ports s beyond outer c) text
       first_port =
-          there_append text (ports s outer c) (objects s outer c) (objects_there (ports s outer c) sound)
-          ∙ ap (λ b. if b then meaning_of (objects s outer c) text else meaning_of (ports s outer c) text) listed_port
+          there_append text (ports s beyond outer c) (objects s beyond outer c) (objects_there (ports s beyond outer c) sound)
+          ∙ ap (λ b. if b then meaning_of (objects s beyond outer c) text else meaning_of (ports s beyond outer c) text) listed_port
 
-      by : Standing s outer c text → IsObject (meaning_in ns text)
+      by : Standing s beyond outer c text → IsObject (meaning_in ns text)
       by (named_own is_own d is) = absurd (clash is_own l)
       by (named_other is_own d is_thing is) =
-          subst IsObject (sym first_port ∙ sym (inner_meaning (meaning_of (level s outer c) text)
-          (other_meaning s outer c text) (meaning_in outer text) is d))
-          (each_found IsShapedObject text (ports s outer c) sound listed_port).is_object
+          subst IsObject (sym first_port ∙ sym (inner_meaning (meaning_of (level s beyond outer c) text)
+          (other_meaning s beyond outer c text) (meaning_in outer text) is d))
+          (each_found IsShapedObject text (ports s beyond outer c) sound listed_port).is_object
       by (not_named is_own other d is) =
           absurd (clash (has-front (port_names c.ports) (object_names c.items) text h) other)

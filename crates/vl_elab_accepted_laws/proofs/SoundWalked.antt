@@ -42,6 +42,8 @@ use Rattle.vl_mean.specs.Constants.{constant_operand}
 use Rattle.vl_mean.specs.Declarations.{constructs, names_of, is_if, label_of, block_name, full_port, ports_of}
 use Rattle.vl_mean.specs.Runs.{Each}
 use Rattle.vl_mean.specs.Scopes.{Scope, constant_in, is_clock}
+use Rattle.vl_mean.specs.Walk.{all_valued}
+use Rattle.vl_mean.specs.Walk.{has_any}
 use Rattle.vl_mean.specs.Walk.{Place, Use, Step, Unfolding, item, with_earlier, module_named, module_parameters}
 use Rattle.vl_mean.specs.Walk.{module_place, module_scope, parameter_names, port_names, written_ports}
 use Rattle.vl_mean.specs.Walk.{header_steps, port_step, optional_name, port_steps, use_of, connections_of}
@@ -63,6 +65,7 @@ use Rattle.vl_elab_accepted_laws.specs.Sized.{AreSound}
 use Rattle.vl_elab_accepted_laws.specs.Joined.{PortsAreObjects}
 use Rattle.vl_elab_accepted_laws.specs.SoundSteps.{HasSoundNames, HasSoundBounds, HasOwnInput, IsFormedStep}
 use Rattle.vl_elab_accepted_laws.proofs.Parameters.{ItemsFine}
+use Rattle.vl_elab_accepted_laws.proofs.Reached.{AllValued, all_valued_of}
 use Rattle.vl_elab_accepted_laws.proofs.Places.{IsSoundPlace, IsSoundScope, turn_sound, block_sound, IsFormedPort}
 use Rattle.vl_elab_accepted_laws.proofs.Places.{port_formed}
 use Rattle.vl_elab_accepted_laws.proofs.Places.{written_formed, IsSoundModule, module_ports_place, module_items_place}
@@ -177,7 +180,7 @@ module _ (ms : List Module) where
   abbrev Unfolds : Unfolding → Type 0
   Unfolds inner =
       (m : Module) (u : Use) (path : List ℕ) (modules : List (List ℕ)) (before : List Step) → IsModule m
-      → (AreSound (inner_meanings m u) → PortsAreObjects m u → Follows before)
+      → AllValued u.overrides → (AreSound (inner_meanings m u) → PortsAreObjects m u → Follows before)
       → Follows (inner m u path modules before)
 
   found_module : (o : Option Module) (g : Module → List Step) → ((m : Module) → o ≡ Some m → Follows (g m))
@@ -190,12 +193,13 @@ module _ (ms : List Module) where
     Steps x at n = item_steps ms inner x at n
 
     instance_good : (at : Place) (x : Instance) → IsSoundPlace at → All IsConnection x.connections
-        → Follows (instance_steps ms inner at x)
+        → Follows (instance_steps all_valued ms inner at x)
     instance_good at x h w fine =
-        let u : Use = use_of at.scopes x in
+        let u : Use = use_of has_any at.scopes x in
         let inside : List ℕ = at.path ++ x.name ++ codes "." in
         found_module (module_named ms x.definition) _
         (λ m e. unfolds m u inside at.modules _ (found-module ms x.definition m formed e)
+        (all_valued_of at.scopes (connections_of x.overrides))
         (λ s p k.
         let overrides : List Step = override_steps at m u [] (connections_of x.overrides) in
         let connections : List Step = connection_steps at m u (module_scope m u inside ∷ []) [] x.connections in
@@ -274,38 +278,50 @@ module _ (ms : List Module) where
 
       turn_good : (b : Block) (at : Place) (path : List ℕ) → IsBlock b → IsSoundPlace at
           → Follows (turn_steps ms inner b at path)
-      turn_good (begin p label xs) at path w h fine =
-          items_good xs (block_place at path xs) 1 w.2
-          (block_sound ms at path xs h w.2 (items_fine xs (block_place at path xs) 1 fine)) fine
-      turn_good (region p xs) at path w h fine =
-          items_good xs (block_place at path xs) 1 w.1
-          (block_sound ms at path xs h w.1 (items_fine xs (block_place at path xs) 1 fine)) fine
+      turn_good (begin p label xs) at path w h fine = (
+        (h.sound, tt, tt, tt),
+        items_good xs (block_place at path xs) 1 w.2
+            (block_sound ms at path xs h w.2 (items_fine xs (block_place at path xs) 1 fine.1)) fine.1,
+      )
+      turn_good (region p xs) at path w h fine = (
+        (h.sound, tt, tt, tt),
+        items_good xs (block_place at path xs) 1 w.1
+            (block_sound ms at path xs h w.1 (items_fine xs (block_place at path xs) 1 fine.1)) fine.1,
+      )
       turn_good (single x) at path w h fine =
-          let inside : Place = block_place at path (more_items x no_items) in
-          item_good x inside 1 w.2
-          (block_sound ms at path (more_items x no_items) h (w.2, tt) (first_fine x inside 1 fine, tt)) fine
+          let inside : Place = block_place at path (more_items x no_items) in (
+            (h.sound, tt, tt, tt),
+            item_good x inside 1 w.2
+                (block_sound ms at path (more_items x no_items) h (w.2, tt) (first_fine x inside 1 fine.1, tt)) fine.1,
+          )
 
       block_good : (b : Block) (at : Place) (n : ℕ) → IsBlock b → IsSoundScope at
           → Follows (block_steps ms inner b at n)
       block_good (begin p label xs) at n w h fine =
-          let path : List ℕ = block_path at (block_name at.names n label) in
-          items_good xs (block_place at path xs) 1 w.2
-          (block_sound ms at path xs h.place w.2 (items_fine xs (block_place at path xs) 1 fine)) fine
+          let path : List ℕ = block_path at (block_name at.names n label) in (
+            (h.place.sound, tt, tt, tt),
+            items_good xs (block_place at path xs) 1 w.2
+                (block_sound ms at path xs h.place w.2 (items_fine xs (block_place at path xs) 1 fine.1)) fine.1,
+          )
       block_good (region p xs) at n w h fine =
-          let path : List ℕ = block_path at (block_name at.names n None) in
-          items_good xs (block_place at path xs) 1 w.1
-          (block_sound ms at path xs h.place w.1 (items_fine xs (block_place at path xs) 1 fine)) fine
+          let path : List ℕ = block_path at (block_name at.names n None) in (
+            (h.place.sound, tt, tt, tt),
+            items_good xs (block_place at path xs) 1 w.1
+                (block_sound ms at path xs h.place w.1 (items_fine xs (block_place at path xs) 1 fine.1)) fine.1,
+          )
       block_good (single x) at n w h fine =
           let path : List ℕ = block_path at (block_name at.names n None) in
-          let inside : Place = block_place at path (more_items x no_items) in
-          single_good (is_if x) x at inside n (λ k. item_good x at n w.2 h k)
-          (λ k. item_good x inside 1 w.2
-          (block_sound ms at path (more_items x no_items) h.place (w.2, tt) (first_fine x inside 1 k, tt)) k) fine
+          let inside : Place = block_place at path (more_items x no_items) in (
+            (h.place.sound, tt, tt, tt),
+            single_good (is_if x) x at inside n (λ k. item_good x at n w.2 h k)
+                (λ k. item_good x inside 1 w.2
+                (block_sound ms at path (more_items x no_items) h.place (w.2, tt) (first_fine x inside 1 k, tt)) k) fine.1,
+          )
 
   module _ (formed : All IsModule ms) where
     unfolded_good : (n : ℕ) → Unfolds (λ m u path modules before. unfolded n ms m u path modules before)
-    unfolded_good zero m u path modules before w f fine = tt
-    unfolded_good (suc n) m u path modules before w f fine =
+    unfolded_good zero m u path modules before w valued f fine = tt
+    unfolded_good (suc n) m u path modules before w valued f fine =
         let at : Place = module_place m u path modules in
         let inner : Unfolding = λ m u path modules before. unfolded n ms m u path modules before in
         let heads : List Step = header_steps at (module_parameters m) in
@@ -318,7 +334,7 @@ module _ (ms : List Module) where
         let fine_heads : AreFine ms heads
         = back (IsFine ms) before heads (front (IsFine ms) (before ++ heads) ports first) in
         let x : IsSoundModule m u path modules
-        = module_sound ms m u path modules w fine_heads fine_ports
+        = module_sound ms m u path modules w valued fine_heads fine_ports
         (items_fine formed inner (unfolded_good n) (items m.items) at_items 1 fine_items) in
         join (before ++ heads ++ ports) rest
         (join (before ++ heads) ports
@@ -333,7 +349,7 @@ walk_good : (ms : List Module) (top : List ℕ) → All IsModule ms → NoStepRe
 walk_good ms top formed e =
     found_module ms (module_named ms top) _
     (λ m k. unfolded_good ms formed (length ms) m (record { is_top = true; overrides = []; input = top_input }) [] [] []
-    (found-module ms top m formed k) (λ s p k. tt)) (walk-fine ms top e)
+    (found-module ms top m formed k) tt (λ s p k. tt)) (walk-fine ms top e)
 
 pub walk_sound : (ms : List Module) (top : List ℕ) → All IsModule ms → NoStepRefused ms top
     → Each HasSoundNames (walk ms top)

@@ -141,15 +141,15 @@ pub record AreItsConstants (s : Scope) (c : Contents) : Type 0 where
       → is_none (constant_of s.constants text) ≡ false
   pub alone : (text : List ℕ) → contains_name (own_names c) text ≡ false → constant_of s.constants text ≡ None
 
-module _ (s : Scope) (outer : List Names) (c : Contents) where
+module _ (s : Scope) (beyond outer : List Names) (c : Contents) where
   abbrev pub level : Names
-  level = scope_meanings s outer c
+  level = scope_meanings s beyond outer c
 
   abbrev pub own_meaning : List ℕ → Meaning
-  own_meaning text = meaning_of (own s outer c) text
+  own_meaning text = meaning_of (own s beyond outer c) text
 
   abbrev pub other_meaning : List ℕ → Meaning
-  other_meaning text = meaning_of (ports s outer c ++ objects s outer c) text
+  other_meaning text = meaning_of (ports s beyond outer c ++ objects s beyond outer c) text
 
   pub data Standing (text : List ℕ) : Type 0 where
     named_own : contains_name (own_names c) text ≡ true → is_undeclared (own_meaning text) ≡ false
@@ -161,33 +161,33 @@ module _ (s : Scope) (outer : List Names) (c : Contents) where
 
   not_own : (text : List ℕ) → is_undeclared (own_meaning text) ≡ true → contains_name (own_names c) text ≡ false
   not_own text e =
-      ap (λ l. contains_name l text) (sym (own_list s outer c))
-      ∙ unlisted s text (own s outer c) (own_parameters s outer c).entries e
+      ap (λ l. contains_name l text) (sym (own_list s beyond outer c))
+      ∙ unlisted s text (own s beyond outer c) (own_parameters s beyond outer c).entries e
 
   is_its_own : (text : List ℕ) → is_undeclared (own_meaning text) ≡ false → contains_name (own_names c) text ≡ true
   is_its_own text e =
-      ap (λ l. contains_name l text) (sym (own_list s outer c))
-      ∙ listed s text (own s outer c) (own_parameters s outer c).entries e
+      ap (λ l. contains_name l text) (sym (own_list s beyond outer c))
+      ∙ listed s text (own s beyond outer c) (own_parameters s beyond outer c).entries e
 
-  things : Things (ports s outer c ++ objects s outer c)
+  things : Things (ports s beyond outer c ++ objects s beyond outer c)
   things =
-      both (λ n. IsThing n.1) (ports s outer c) (objects s outer c) (thing_ports s outer (around s outer c) c.ports)
-      (thing_items s outer (around s outer c) c.items)
+      both (λ n. IsThing n.1) (ports s beyond outer c) (objects s beyond outer c) (thing_ports s outer (around s beyond outer c) c.ports)
+      (thing_items s outer (around s beyond outer c) c.items)
 
   pub standing : AreItsConstants s c → (text : List ℕ) → Standing text
   standing made text =
-      by (is_undeclared (own_meaning text)) (is_undeclared (other_meaning text)) refl refl (steps_are s outer c text)
+      by (is_undeclared (own_meaning text)) (is_undeclared (other_meaning text)) refl refl (steps_are s beyond outer c text)
     where
       by : (a b : Bool) → is_undeclared (own_meaning text) ≡ a → is_undeclared (other_meaning text) ≡ b
           → meaning_of level text ≡ (if a then (if b then of_constant (constant_of s.constants text)
           else other_meaning text) else own_meaning text) → Standing text
       by false b e f h = named_own (is_its_own text e) e h
       by true false e f h =
-          named_other (not_own text e) f (each_found IsThing text (ports s outer c ++ objects s outer c) things f) h
+          named_other (not_own text e) f (each_found IsThing text (ports s beyond outer c ++ objects s beyond outer c) things f) h
       by true true e f h =
           not_named (not_own text e)
-          (ap (λ l. contains_name l text) (sym (others_list s outer c))
-          ∙ unlisted s text (ports s outer c ++ objects s outer c) (others s outer c) f) e
+          (ap (λ l. contains_name l text) (sym (others_list s beyond outer c))
+          ∙ unlisted s text (ports s beyond outer c ++ objects s beyond outer c) (others s beyond outer c) f) e
           (h ∙ ap of_constant (made.alone text (not_own text e)))
 
   -- a name that is listed behind the parameters so far

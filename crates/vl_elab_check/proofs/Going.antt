@@ -13,7 +13,7 @@ use Rattle.vl_tree.specs.declared.part.LoopHead.{LoopHead}
 use Rattle.vl_tree.specs.declared.source.Module.{Module}
 use Rattle.vl_tree.specs.Attributes.{Attributes}
 use Rattle.vl_tree.specs.Expr.{Expr}
-use Rattle.vl_tree.specs.Item.{Item, Items, Block, depth, items}
+use Rattle.vl_tree.specs.Item.{Item, Items, Block, begin, region, single, no_items, more_items, depth, items}
 use Rattle.vl_tree.specs.ItemView.{block, shown}
 use Rattle.vl_tree.specs.WellFormed.{AreWellFormed, IsBlock}
 use Rattle.vl_size.specs.Size.{is_true}
@@ -22,7 +22,8 @@ use Rattle.vl_mean.specs.Cells.{contains_name}
 use Rattle.vl_mean.specs.Constants.{constant_operand}
 use Rattle.vl_mean.specs.Declarations.{block_name, label_of}
 use Rattle.vl_mean.specs.Scopes.{constant_in}
-use Rattle.vl_mean.specs.Walk.{Place, Step, Unfolding, Use, item, block_path, block_place, block_walk, item_walk}
+use Rattle.vl_mean.specs.Walk.{Place, Step, Unfolding, Use, item, block_step, block_path, block_place, block_walk}
+use Rattle.vl_mean.specs.Walk.{item_walk, single_number, single_place}
 use Rattle.vl_mean.specs.Walk as walk
 use Rattle.vl_mean.specs.Walk.{first_turn, loop_walk, next_turn, turn_limit, turn_place, turns}
 use Rattle.vl_mean.specs.Walk.{items_walk, turn_walk, instance_steps, module_named, module_place, module_walk, use_of}
@@ -41,8 +42,8 @@ use Rattle.vl_elab_spec.specs.Left.{AreLeft, ItemsAreLeft}
 use Rattle.vl_elab_spec.specs.Within.{IsNotRecursive, behind_head, block_items, chosen_by, chosen_walk, front_steps}
 use Rattle.vl_elab_spec.specs.Within.{head_steps, inner_walk, opened_walk, nested_if}
 use Rattle.vl_elab_spec.proofs.Behind.{WalkedFrom, goes_on, left_all, stops}
-use Rattle.vl_elab_spec.proofs.Inner.{block_formed, if_by, nested_item, not_recursive, own_and_inner, scope_items}
-use Rattle.vl_elab_spec.proofs.Inner.{turn_items}
+use Rattle.vl_elab_spec.proofs.Inner.{block_formed, if_by, nested_item, not_recursive, own_and_inner}
+use Rattle.vl_elab_spec.proofs.Inner.{scope_items, turn_items}
 use Rattle.vl_elab_spec.proofs.Unfolded.{instance_found, named_is, none_unfolded, one_unfolded}
 use Rattle.vl_elab_check.specs.declared.scopes.Here.{Here}
 use Rattle.vl_elab_check.specs.Bare.{is_bare}
@@ -162,39 +163,75 @@ module _ (ms : List Module) (n : ℕ) where
 
   -- ---- blocks
 
-  pub scope_walked : (b : Block) (xs : Items) (at : Place) (k : ℕ) (t : Totals) (new : kept.Totals)
-      (g : Option ElabFault) → xs ≡ block_items b → nested_if b ≡ None
-      → ((text : List ℕ) → AreWalked ms t new (items_walk is_valued ms inner xs (block_place at text xs) 1) g)
+  -- one that isn't passed
+  pub block_stops : (b : Block) (at : Place) (k : ℕ) (t : Totals) (new : kept.Totals) (g : Option ElabFault)
+      → is_some g ≡ true → AreWalked ms t new (block_step at b ∷ []) g
       → AreWalked ms t new (block_walk is_valued ms inner b at k) g
-  scope_walked b xs at k t new g e gone walked =
-      let text : List ℕ = block_path at (block_name at.names k (label_of b)) in
-      subst (λ ys. AreWalked ms t new ys g)
-      (ap (λ ys. items_walk is_valued ms inner ys (block_place at text ys) 1) e ∙ scope_items is_valued ms inner b at k gone)
-      (walked text)
+  block_stops (begin p label xs) at k t new g e h =
+      stops ms t new (block_step at (begin p label xs) ∷ [])
+      (items_walk is_valued ms inner xs (block_place at (block_path at (block_name at.names k label)) xs) 1) g e h
+  block_stops (region p xs) at k t new g e h =
+      stops ms t new (block_step at (region p xs) ∷ [])
+      (items_walk is_valued ms inner xs (block_place at (block_path at (block_name at.names k None)) xs) 1) g e h
+  block_stops (single x) at k t new g e h =
+      stops ms t new (block_step at (single x) ∷ [])
+      (item_walk is_valued ms inner x (single_place at k x) (single_number k x)) g e h
 
-  pub turn_walked : (b : Block) (xs : Items) (at : Place) (text : List ℕ) (t : Totals) (new : kept.Totals)
-      (g : Option ElabFault) → xs ≡ block_items b
-      → AreWalked ms t new (items_walk is_valued ms inner xs (block_place at text xs) 1) g
+  pub turn_stops : (b : Block) (at : Place) (text : List ℕ) (t : Totals) (new : kept.Totals) (g : Option ElabFault)
+      → is_some g ≡ true → AreWalked ms t new (block_step at b ∷ []) g
       → AreWalked ms t new (turn_walk is_valued ms inner b at text) g
-  turn_walked b xs at text t new g e walked =
-      subst (λ ys. AreWalked ms t new ys g)
-      (ap (λ ys. items_walk is_valued ms inner ys (block_place at text ys) 1) e ∙ turn_items is_valued ms inner b at text) walked
+  turn_stops (begin p label xs) at text t new g e h =
+      stops ms t new (block_step at (begin p label xs) ∷ []) (items_walk is_valued ms inner xs (block_place at text xs) 1)
+      g e h
+  turn_stops (region p xs) at text t new g e h =
+      stops ms t new (block_step at (region p xs) ∷ []) (items_walk is_valued ms inner xs (block_place at text xs) 1) g e h
+  turn_stops (single x) at text t new g e h =
+      stops ms t new (block_step at (single x) ∷ [])
+      (item_walk is_valued ms inner x (block_place at text (more_items x no_items)) 1) g e h
+
+  -- one that is passed, and what is in it
+  module _ (b : Block) (at : Place) (t : Totals) (between new : kept.Totals) (f g : Option ElabFault)
+      (passes : is_some f ≡ false) (own : AreWalked ms t between (block_step at b ∷ []) f) where
+    behind_own : (ys zs : List Step) → (block_step at b ∷ []) ++ ys ≡ zs → WalkedFrom ms between new ys g
+        → AreWalked ms t new zs g
+    behind_own ys zs e walked =
+        subst (λ xs. AreWalked ms t new xs g) e (goes_on ms t between new (block_step at b ∷ []) ys f g passes own walked)
+
+    pub scope_walked : (xs : Items) (k : ℕ) → xs ≡ block_items b → nested_if b ≡ None
+        → ((text : List ℕ) → WalkedFrom ms between new (items_walk is_valued ms inner xs (block_place at text xs) 1) g)
+        → AreWalked ms t new (block_walk is_valued ms inner b at k) g
+    scope_walked xs k e gone walked =
+        let text : List ℕ = block_path at (block_name at.names k (label_of b)) in
+        behind_own (items_walk is_valued ms inner xs (block_place at text xs) 1) (block_walk is_valued ms inner b at k)
+        (ap (λ ys. (block_step at b ∷ []) ++ items_walk is_valued ms inner ys (block_place at text ys) 1) e
+        ∙ scope_items is_valued ms inner b at k gone)
+        (walked text)
+
+    pub turn_walked : (xs : Items) (text : List ℕ) → xs ≡ block_items b
+        → WalkedFrom ms between new (items_walk is_valued ms inner xs (block_place at text xs) 1) g
+        → AreWalked ms t new (turn_walk is_valued ms inner b at text) g
+    turn_walked xs text e walked =
+        behind_own (items_walk is_valued ms inner xs (block_place at text xs) 1) (turn_walk is_valued ms inner b at text)
+        (ap (λ ys. (block_step at b ∷ []) ++ items_walk is_valued ms inner ys (block_place at text ys) 1) e
+        ∙ turn_items is_valued ms inner b at text)
+        walked
+
+    pub nested_walked : (x : Item) (k : ℕ) → nested_if b ≡ Some x
+        → WalkedFrom ms between new (item_walk is_valued ms inner x at k) g
+        → AreWalked ms t new (block_walk is_valued ms inner b at k) g
+    nested_walked x k e walked =
+        behind_own (item_walk is_valued ms inner x at k) (block_walk is_valued ms inner b at k)
+        (nested_item is_valued ms inner b x at k e) walked
 
   pub items_formed : (b : Block) (xs : Items) → xs ≡ block_items b → IsBlock b → AreWellFormed xs
   items_formed b xs e w = subst AreWellFormed (sym e) (block_formed b w)
-
-  pub nested_walked : (b : Block) (x : Item) (at : Place) (k : ℕ) (t : Totals) (new : kept.Totals)
-      (g : Option ElabFault) → nested_if b ≡ Some x → AreWalked ms t new (item_walk is_valued ms inner x at k) g
-      → AreWalked ms t new (block_walk is_valued ms inner b at k) g
-  nested_walked b x at k t new g e walked =
-      subst (λ ys. AreWalked ms t new ys g) (nested_item is_valued ms inner b x at k e) walked
 
 -- ---- modules
 
 -- where no module has the name
 pub unnamed_walked : (ms : List Module) (n : ℕ) (at : Place) (x : Instance) (t : Totals) (new : kept.Totals)
     → module_named ms x.definition ≡ None → AreTotals new t
-    → AreWalked ms t new (instance_steps ms (module_walk is_valued n ms) at x) None
+    → AreWalked ms t new (instance_steps is_valued ms (module_walk is_valued n ms) at x) None
 unnamed_walked ms n at x t new e totals =
     subst (λ xs. AreWalked ms t new xs None) (instance_found is_valued ms (module_walk is_valued n ms) at x None e)
     (none_walked ms t new totals)
@@ -203,11 +240,11 @@ module _ (ms : List Module) (n : ℕ) (at : Place) (x : Instance) (m : Module) (
   where
     -- where modules are as deep in one another as they may be
     pub deep_walked : (t : Totals) (new : kept.Totals) → n ≡ 0 → AreTotals new t
-        → AreWalked ms t new (instance_steps ms (module_walk is_valued n ms) at x) None
+        → AreWalked ms t new (instance_steps is_valued ms (module_walk is_valued n ms) at x) None
     deep_walked t new none totals =
         subst (λ xs. AreWalked ms t new xs None)
-        (sym (none_unfolded is_valued ms n m (use_of at.scopes x) (at.path ++ x.name ++ codes ".") at.modules
-        (front_steps at m (use_of at.scopes x) (at.path ++ x.name ++ codes ".") x) none)
+        (sym (none_unfolded is_valued ms n m (use_of (is_valued at) at.scopes x) (at.path ++ x.name ++ codes ".") at.modules
+        (front_steps at m (use_of (is_valued at) at.scopes x) (at.path ++ x.name ++ codes ".") x) none)
         ∙ instance_found is_valued ms (module_walk is_valued n ms) at x (Some m) e) (none_walked ms t new totals)
 
     -- one that stands in its own module was refused
@@ -215,22 +252,22 @@ module _ (ms : List Module) (n : ℕ) (at : Place) (x : Instance) (m : Module) (
     not_around h = ap (contains_name at.modules) (named_is ms x.definition m e).name ∙ h
 
     pub module_walked : (t : Totals) (new : kept.Totals) (g : Option ElabFault) → 0 < n
-        → ((text : List ℕ) → let u = use_of at.scopes x in AreWalked ms t new (front_steps at m u text x
+        → ((text : List ℕ) → let u = use_of (is_valued at) at.scopes x in AreWalked ms t new (front_steps at m u text x
         ++ opened_walk is_valued ms (module_walk is_valued (n - 1) ms) (module_place m u text at.modules) m u) g)
-        → AreWalked ms t new (instance_steps ms (module_walk is_valued n ms) at x) g
+        → AreWalked ms t new (instance_steps is_valued ms (module_walk is_valued n ms) at x) g
     module_walked t new g positive walked =
         let text : List ℕ = at.path ++ x.name ++ codes "." in
-        let u : Use = use_of at.scopes x in
+        let u : Use = use_of (is_valued at) at.scopes x in
         subst (λ xs. AreWalked ms t new xs g)
         (one_unfolded is_valued ms n m u text at.modules (front_steps at m u text x) positive
         ∙ instance_found is_valued ms (module_walk is_valued n ms) at x (Some m) e) (walked text)
 
     -- where nothing is within it
     pub bare_walked : (t : Totals) (new : kept.Totals) (b : Bool) → 0 < n → b ≡ is_bare m x → b ≡ true
-        → AreTotals new t → AreWalked ms t new (instance_steps ms (module_walk is_valued n ms) at x) None
+        → AreTotals new t → AreWalked ms t new (instance_steps is_valued ms (module_walk is_valued n ms) at x) None
     bare_walked t new b positive same bare totals =
         module_walked t new None positive (λ text. subst (λ xs. AreWalked ms t new xs None)
-        (sym (bare_steps ms (module_walk is_valued (n - 1) ms) at m (use_of at.scopes x) text x (sym same ∙ bare)))
+        (sym (bare_steps ms (module_walk is_valued (n - 1) ms) at m (use_of (is_valued at) at.scopes x) text x (sym same ∙ bare)))
         (none_walked ms t new totals))
 
 -- ---- what is given and joined, with the head of the module, and behind it the items

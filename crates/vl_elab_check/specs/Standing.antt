@@ -11,6 +11,7 @@ use Rattle.vl_elab_names.specs.Known.{contains}
 use Rattle.vl_elab_scope.specs.Seen.{innermost}
 use Rattle.vl_elab_decls.specs.declared.scopes.Inside.{Inside}
 use Rattle.vl_elab_decls.specs.Stands.{Stands}
+use Rattle.vl_elab_params.specs.Reached.{AreAround, AreBefore}
 use Rattle.vl_elab_spec.specs.declared.totals.Totals as kept
 use Rattle.vl_elab_spec.specs.Walked.{AreTotals}
 use Rattle.vl_elab_check.specs.Here.{IsAt}
@@ -29,6 +30,13 @@ pub record IsSoFar (ms : List Module) (walked : kept.Totals) (t : Totals) : Type
 -- in the scopes of a place, within these modules
 pub record IsWithin (inside : Inside) (path : List (List ℕ)) (at : Place) : Type 0 where
   pub stands : Stands inside.names inside.numbers (contains inside.clocks) (meanings_at at) at.scopes
+  pub around : AreAround inside.around at
+  pub modules : path ≡ at.modules
+
+-- the same, where what stands before the next scope was handed over to it
+pub record IsHanded (inside : Inside) (path : List (List ℕ)) (at : Place) : Type 0 where
+  pub stands : Stands inside.names inside.numbers (contains inside.clocks) (meanings_at at) at.scopes
+  pub before : AreBefore inside.around at at.earlier
   pub modules : path ≡ at.modules
 
 -- there is a scope

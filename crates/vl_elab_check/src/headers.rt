@@ -9,7 +9,7 @@ ghost use Rattle.vl_elab_spec.specs.Meanings.{meanings_at};
 ghost use Rattle.vl_elab_spec.specs.Refused as refused;
 ghost use Rattle.vl_elab_scope.specs.Alike.{Alike};
 ghost use Rattle.vl_elab_names.specs.Known.{AreNames};
-ghost use Rattle.vl_elab_params.specs.Reached.{IsReached};
+ghost use Rattle.vl_elab_params.specs.Reached.{AreAround, IsReached};
 ghost use Rattle.vl_elab_check_scope.specs.Gives.{Gives};
 ghost use Rattle.vl_elab_spec.specs.Walked.{AreTotals, AreWalked};
 
@@ -19,10 +19,10 @@ use std::alloc::Global;
 use vl_elab_check_scope::header_fault;
 use vl_elab_const::Given;
 use vl_elab_count::{Added, expr_nodes, range_nodes};
+use vl_elab_decls::Inside;
 use vl_elab_names::NameSet;
 use vl_elab_params::Reached;
 use vl_elab_places::header_place;
-use vl_elab_scope::Names;
 use vl_elab_spec::{ElabFault, Totals};
 use vl_mean::widths::plus;
 use vl_tree::{HeaderParameter, Parameter};
@@ -39,22 +39,23 @@ fn parameter_nodes(parameter: &Parameter) -> u64
 fn walk_header(
     alloc: Global,
     parameter: &Parameter,
-    names: &mut Names,
+    inside: &mut Inside,
     earlier: &mut NameSet,
     reached: &mut Reached,
     given: &Given,
     totals: &mut Totals,
 ) -> Result<Option<ElabFault>, Memory>
-    ensures names { OnOk result (names.new ≡ names.old) }
+    ensures inside { OnOk result (inside.new ≡ inside.old) }
     ensures walked { IfOk result (λ g. (ms : List Module) (at : Place) (t : refused.Totals)
-        → Alike names.old (meanings_at at) → AreNames earlier.old at.earlier → IsReached reached.old at at.earlier
+        → Alike inside.old.names (meanings_at at) → AreAround inside.old.around at
+        → AreNames earlier.old at.earlier → IsReached reached.old at at.earlier
         → Gives given.now at → AreTotals totals.old t → AreWalked ms t totals.new (header at parameter.now ∷ []) g) }
     ensures earlier { OnOk result ((before : List (List ℕ)) → AreNames earlier.old before
         → AreNames earlier.new (before ++ parameter.now.name ∷ [])) }
-    ensures reached { OnOk result ((at : Place) (before : List (List ℕ)) → Alike names.old (meanings_at at)
+    ensures reached { OnOk result ((at : Place) (before : List (List ℕ)) → Alike inside.old.names (meanings_at at)
         → IsReached reached.old at before → IsReached reached.new at (before ++ parameter.now.name ∷ [])) }
 {
-    let fault = header_fault(alloc, parameter, given, names, earlier, reached)?;
+    let fault = header_fault(alloc, parameter, given, inside, earlier, reached)?;
     let added = Added {
         nodes: parameter_nodes(parameter),
         names: 0,
@@ -68,23 +69,26 @@ fn walk_header(
 pub fn walk_headers(
     alloc: Global,
     parameters: &[HeaderParameter],
-    names: &mut Names,
+    inside: &mut Inside,
     earlier: &mut NameSet,
     reached: &mut Reached,
     given: &Given,
     totals: &mut Totals,
 ) -> Result<Option<ElabFault>, Memory>
-    ensures names { OnOk result (names.new ≡ names.old) }
+    ensures inside { OnOk result (inside.new ≡ inside.old) }
     ensures walked { IfOk result (λ g. (ms : List Module) (at : Place) (t : refused.Totals)
-        → Alike names.old (meanings_at at) → AreNames earlier.old at.earlier → IsReached reached.old at at.earlier
+        → Alike inside.old.names (meanings_at at) → AreAround inside.old.around at
+        → AreNames earlier.old at.earlier → IsReached reached.old at at.earlier
         → Gives given.now at → AreTotals totals.old t
         → AreWalked ms t totals.new (header_steps at (header_parameters parameters.now)) g) }
     ensures earlier { IfOk result (λ g. g ≡ None → (at : Place)
-        → Alike names.old (meanings_at at) → AreNames earlier.old at.earlier → IsReached reached.old at at.earlier
+        → Alike inside.old.names (meanings_at at) → AreAround inside.old.around at
+        → AreNames earlier.old at.earlier → IsReached reached.old at at.earlier
         → Gives given.now at
         → AreNames earlier.new (at.earlier ++ parameter_names (header_parameters parameters.now))) }
     ensures reached { IfOk result (λ g. g ≡ None → (at : Place)
-        → Alike names.old (meanings_at at) → AreNames earlier.old at.earlier → IsReached reached.old at at.earlier
+        → Alike inside.old.names (meanings_at at) → AreAround inside.old.around at
+        → AreNames earlier.old at.earlier → IsReached reached.old at at.earlier
         → Gives given.now at
         → IsReached reached.new at (at.earlier ++ parameter_names (header_parameters parameters.now))) }
 {
@@ -92,7 +96,7 @@ pub fn walk_headers(
         let found = walk_header(
             alloc,
             &parameter.parameter,
-            names,
+            inside,
             earlier,
             reached,
             given,

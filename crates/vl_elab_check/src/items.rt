@@ -8,7 +8,7 @@ ghost use Rattle.vl_elab_spec.specs.Refused.{lowest};
 ghost use Rattle.vl_elab_scope.specs.Alike.{Alike};
 ghost use Rattle.vl_elab_names.specs.Known.{AreNames};
 ghost use Rattle.vl_elab_names.specs.Table.{AreModules};
-ghost use Rattle.vl_elab_params.specs.Reached.{IsReached};
+ghost use Rattle.vl_elab_params.specs.Reached.{AreAround, IsReached};
 ghost use Rattle.vl_elab_spec.specs.Walked.{AreTotals, AreWalked};
 ghost use Rattle.vl_elab_check.specs.Here.{IsAt, own_parameters};
 ghost use Rattle.vl_elab_check.specs.Standing.{HasScope, IsHere};
@@ -42,10 +42,12 @@ fn item_fault(
     ensures names { OnOk result (inside.new.names ≡ inside.old.names) }
     ensures numbers { OnOk result (inside.new.numbers ≡ inside.old.numbers) }
     ensures clocks { OnOk result (inside.new.clocks ≡ inside.old.clocks) }
+    ensures around { OnOk result (inside.new.around ≡ inside.old.around) }
     ensures given { OnOk result (here.new.given ≡ here.old.given) }
     ensures fault { IfOk result (λ g. (at : Place)
         → IsAt inside.old.names inside.old.numbers here.old.earlier here.old.reached here.old.given at
-        → walk.now.path ≡ at.modules → g ≡ lowest (items.item_refusals source.now.modules.now at item.now)) }
+        → AreAround inside.old.around at → walk.now.path ≡ at.modules
+        → g ≡ lowest (items.item_refusals source.now.modules.now at item.now)) }
     ensures earlier { OnOk result ((before : List (List ℕ)) → AreNames here.old.earlier before
         → AreNames here.new.earlier (before ++ item_names item.now)) }
     ensures reached { OnOk result ((at : Place) (before : List (List ℕ)) → Alike inside.old.names (meanings_at at)
@@ -73,7 +75,7 @@ fn item_fault(
                 *kind,
                 list.as_slice(),
                 given,
-                names,
+                inside,
                 earlier,
                 reached,
             )
@@ -104,8 +106,8 @@ fn item_fault(
     }
 }
 
-/// An item by itself: which refusal is answered, with the size of the design. The nets, variables, genvars and parameters
-/// that it declares stand before what follows then.
+/// An item by itself: which refusal is answered, with the size of the design. The nets, variables, genvars and
+/// parameters that it declares stand before what follows then.
 pub(crate) fn walk_item(
     source: &Source<'_>,
     walk: &mut Walk,

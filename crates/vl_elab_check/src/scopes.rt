@@ -4,15 +4,16 @@ ghost use Rattle.vl_tree.specs.Item.{items};
 ghost use Rattle.vl_tree.specs.WellFormed.{AreWellFormed, IsModule};
 ghost use Rattle.vl_mean.specs.Walk as walk;
 ghost use Rattle.vl_mean.specs.Walk.{Place, Use, block_place, module_place};
+ghost use Rattle.vl_elab_spec.specs.Items.{is_valued};
 ghost use Rattle.vl_elab_const.specs.Given.{value_given, IsGiven};
 ghost use Rattle.vl_elab_decls.specs.Inputs.{AreInputs};
 ghost use Rattle.vl_elab_check.specs.Judged.{top_use};
-ghost use Rattle.vl_elab_check.specs.Standing.{HasScope, IsHere, IsWithin};
+ghost use Rattle.vl_elab_check.specs.Standing.{HasScope, IsHanded, IsHere, IsWithin};
 
 use fv_text::{List, Memory};
 use std::alloc::Global;
 use vl_elab_check_instance::joined_inputs;
-use vl_elab_const::{Given, given_by};
+use vl_elab_const::{Given, judged_by};
 use vl_elab_decls::{Inputs, Inside, enter_block, enter_module, leave_scope};
 use vl_elab_names::NameSet;
 use vl_elab_params::Reached;
@@ -33,17 +34,19 @@ pub(crate) struct Used {
     pub(crate) here: Here,
 }
 
-/// Enters the scope of a block with these items.
+/// Enters the scope of a block with these items. What stands before it was handed over.
 pub(crate) fn enter_scope(alloc: Global, all: &[Item], inside: &mut Inside) -> Result<Here, Memory>
     ensures names { OnOk result (drop 2 inside.new.names ≡ inside.old.names) }
     ensures numbers { OnOk result (drop 2 inside.new.numbers ≡ inside.old.numbers) }
     ensures clocks { OnOk result (inside.new.clocks ≡ inside.old.clocks) }
+    ensures around { OnOk result (drop 1 inside.new.around ≡ inside.old.around) }
     ensures scope { OnOk result (HasScope inside.new) }
     ensures here { IfOk result (λ here. (at : Place) (path : List (List ℕ)) (text : List ℕ)
-        → IsWithin inside.old path at → AreWellFormed (items all.now)
+        → IsHanded inside.old path at → AreWellFormed (items all.now)
         → IsHere inside.new here path (block_place at text (items all.now))) }
 {
-    enter_block(alloc, all, &mut inside.names, &mut inside.numbers)?;
+    let around = &mut inside.around;
+    enter_block(alloc, all, around, &mut inside.names, &mut inside.numbers)?;
     let reached = Reached::new(alloc, &[], all)?;
     Ok(Here {
         earlier: NameSet::new(alloc),
@@ -57,9 +60,11 @@ pub(crate) fn leave(inside: &mut Inside)
     ensures { inside.new ≡ record inside.old {
       names = drop 2 inside.old.names;
       numbers = drop 2 inside.old.numbers;
+      around = drop 1 inside.old.around;
     } }
 {
     leave_scope(&mut inside.names, &mut inside.numbers);
+    inside.around.leave();
 }
 
 pub(crate) fn header_of(all: &Option<List<HeaderParameter>>) -> &[HeaderParameter]
@@ -127,10 +132,10 @@ pub(crate) fn enter_instance(
         → IsWithin inside.now at.modules at → IsModule module.now
         → path ≡ at.modules ++ module.now.name ∷ []
         → IsHere used.inside used.here path
-        (module_place module.now (walk.use_of at.scopes instance.now) text at.modules)) }
+        (module_place module.now (walk.use_of (is_valued at) at.scopes instance.now) text at.modules)) }
 {
     let overrides = connections_of(&instance.overrides);
-    let given = given_by(alloc, overrides, &inside.numbers)?;
+    let given = judged_by(alloc, overrides, &inside.names, &inside.numbers)?;
     let inputs = joined_inputs(
         alloc,
         instance.connections.as_slice(),

@@ -1,8 +1,9 @@
 //! Steps of the walk that have no others within them.
-ghost use Rattle.std.specs.Prelude.{◌≡◌, ◌++◌, ℕ, List, None, IfOk, OnOk};
+ghost use Rattle.std.specs.Prelude.{◌≡◌, ◌∷◌, ◌++◌, [], ℕ, List, None, IfOk, OnOk};
 ghost use Rattle.vl_tree.specs.declared.source.Module.{Module as SpecModule};
+ghost use Rattle.vl_tree.specs.ItemView.{block as block_of};
 ghost use Rattle.vl_mean.specs.Declarations.{names_of};
-ghost use Rattle.vl_mean.specs.Walk.{Place, Use, module_place, with_earlier};
+ghost use Rattle.vl_mean.specs.Walk.{Place, Use, block_step, module_place, with_earlier};
 ghost use Rattle.vl_elab_spec.specs.Items.{inner_meanings};
 ghost use Rattle.vl_elab_spec.specs.Meanings.{item_names};
 ghost use Rattle.vl_elab_spec.specs.Refused as refused;
@@ -17,11 +18,24 @@ use crate::passed::pass_item;
 use crate::ports::walk_ports;
 use crate::progress::Walk;
 use crate::scopes::{Here, Used, connections_of, header_of, ports_of};
+use crate::step::weighed;
 use fv_text::Memory;
 use std::alloc::Global;
+use vl_elab_count::Added;
 use vl_elab_decls::Inside;
+use vl_elab_places::block_place;
 use vl_elab_spec::ElabFault;
-use vl_tree::{Instance, Item, Module};
+use vl_tree::{Block, Instance, Item, Module};
+
+/// A block of a generate construct by itself, which is one node.
+pub(crate) fn begin_block(walk: &mut Walk, block: &Block) -> Option<ElabFault>
+    ensures path { walk.new.path ≡ walk.old.path }
+    ensures walked { (ms : List SpecModule) (t : refused.Totals) (at : Place) → AreTotals walk.old.totals t
+        → AreWalked ms t walk.new.totals (block_step at (block_of block.now) ∷ []) result }
+{
+    let added = Added { nodes: 1, names: 0 };
+    weighed(None, added, block_place(block), &mut walk.totals)
+}
 
 /// Goes past an item: its labels, and the name of an instance, stand before what follows too.
 pub(crate) fn pass(
@@ -66,7 +80,7 @@ pub(crate) fn head(
     let fault = walk_headers(
         walk.alloc,
         parameters,
-        &mut used.inside.names,
+        &mut used.inside,
         &mut used.here.earlier,
         &mut used.here.reached,
         &used.here.given,

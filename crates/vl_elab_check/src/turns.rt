@@ -5,7 +5,10 @@ ghost use Rattle.vl_mean.specs.Walk as walk;
 ghost use Rattle.vl_mean.specs.Walk.{Place};
 ghost use Rattle.vl_elab_spec.specs.Items.{is_valued};
 ghost use Rattle.vl_elab_const.specs.Numbers.{HaveNumbers};
+ghost use Rattle.vl_elab_spec.specs.Meanings.{Names as Scoped};
 ghost use Rattle.vl_elab_check_item.specs.TurnParts.{in_turn};
+ghost use Rattle.vl_elab_params.specs.declared.reached.Reached.{Reached as SpecReached};
+ghost use Rattle.vl_elab_params.specs.Reached.{over};
 ghost use Rattle.vl_elab_check.specs.Standing.{IsWithin};
 
 use fv_text::Memory;
@@ -13,6 +16,7 @@ use std::alloc::Global;
 use vl_elab_check_item::{HeadValues, MOST_TURNS, enter_turn, head_values, next_turn};
 use vl_elab_const::genvar_value;
 use vl_elab_decls::Inside;
+use vl_elab_params::Reached;
 use vl_mean::Const;
 use vl_tree::LoopHead;
 
@@ -58,30 +62,38 @@ pub(crate) fn next_value(
     Ok(next_turn(alloc, head, value, &mut inside.numbers)?)
 }
 
-/// Enters the scope of a turn.
+/// Enters the scope of a turn, behind what stands before the loop.
 pub(crate) fn enter(
     alloc: Global,
     head: &LoopHead,
     value: Const,
     inside: &mut Inside,
+    reached: &mut Reached,
 ) -> Result<(), Memory>
     ensures { OnOk result (inside.new ≡ record inside.old {
       names = in_turn head.now.variable value inside.old.names;
       numbers = in_turn head.now.variable value inside.old.numbers;
+      around = in_turn head.now.variable value (over reached.old inside.old.around);
     }) }
 {
     enter_turn(alloc, &head.variable, value, &mut inside.names)?;
     enter_turn(alloc, &head.variable, value, &mut inside.numbers)?;
+    reached.hand_over(alloc, &mut inside.around)?;
+    enter_turn(alloc, &head.variable, value, &mut inside.around)?;
     Ok(())
 }
 
 /// Leaves it.
-pub(crate) fn leave(inside: &mut Inside)
-    ensures { inside.new ≡ record inside.old {
-      names = drop 1 inside.old.names;
-      numbers = drop 1 inside.old.numbers;
-    } }
+pub(crate) fn leave(alloc: Global, inside: &mut Inside, reached: &mut Reached)
+    ensures { (r : SpecReached) (outer : List Scoped) → drop 1 inside.old.around ≡ over r outer
+        → (reached.new ≡ r) × (inside.new ≡ record inside.old {
+          names = drop 1 inside.old.names;
+          numbers = drop 1 inside.old.numbers;
+          around = outer;
+        }) }
 {
     inside.names.leave();
     inside.numbers.leave();
+    inside.around.leave();
+    reached.take_back(alloc, &mut inside.around);
 }

@@ -17,18 +17,20 @@ ghost use Rattle.vl_elab_spec.specs.Refused as refused;
 ghost use Rattle.vl_elab_names.specs.Table.{AreModules};
 ghost use Rattle.vl_elab_spec.specs.Walked.{AreWalked};
 ghost use Rattle.vl_elab_spec.specs.Within as within;
-ghost use Rattle.vl_elab_check.specs.Standing.{HasScope, IsHere, IsSoFar, IsWithin, below};
+ghost use Rattle.vl_elab_params.specs.Reached.{IsReached};
+ghost use Rattle.vl_elab_check.specs.Standing.{HasScope, IsHanded, IsHere, IsSoFar, IsWithin, below};
 
 use crate::bare::is_bare;
 use crate::conditions::{chosen_by, condition_value};
 use crate::items::walk_item;
 use crate::progress::{Source, Walk};
 use crate::scopes::{Here, enter_instance, enter_scope, leave};
-use crate::steps::{open, pass};
+use crate::steps::{begin_block, open, pass};
 use crate::turns;
 use crate::turns::{first_value, next_value, turn_limit};
 use fv_text::Memory;
 use vl_elab_decls::Inside;
+use vl_elab_params::Reached;
 use vl_elab_scope::blocks::{items_of, nested};
 use vl_elab_spec::ElabFault;
 use vl_mean::Const;
@@ -112,7 +114,7 @@ fn walk_within(
 {
     match &part.kind {
         ItemKind::Instance(instance) => Ok(walk_instance(source, walk, inside, instance)?),
-        ItemKind::For(head, block) => Ok(walk_turns(source, walk, inside, head, block)?),
+        ItemKind::For(head, block) => Ok(walk_turns(source, walk, inside, here, head, block)?),
         ItemKind::If(condition, first, second) => Ok(walk_if(
             source, walk, inside, here, condition, first, second,
         )?),
@@ -152,7 +154,7 @@ fn walk_if(
     }
 }
 
-/// A block of an `if`. An `if` alone in it is directly nested.
+/// A block of an `if`: one node, and its items. An `if` alone in it is directly nested.
 #[cycle(walk)]
 fn walk_block(
     source: &Source<'_>,
@@ -172,8 +174,12 @@ fn walk_block(
         → IsHere inside.old here.old walk.old.path at → AreWalked source.now.modules.now t walk.new.totals
         (block_walk is_valued source.now.modules.now (below source.now) (block_of block.now) at n) g) }
 {
+    let own = begin_block(walk, block);
+    if own.is_some() {
+        return Ok(own);
+    }
     match nested(block) {
-        None => Ok(walk_scope(source, walk, inside, items_of(block))?),
+        None => Ok(walk_inner(source, walk, inside, here, items_of(block))?),
         Some(part) => Ok(walk_one(source, walk, inside, here, part)?),
     }
 }
@@ -184,15 +190,17 @@ fn walk_turns(
     source: &Source<'_>,
     walk: &mut Walk,
     inside: &mut Inside,
+    here: &mut Here,
     head: &LoopHead,
     block: &Block,
 ) -> Result<Option<ElabFault>, Memory>
     requires { AreModules source.now.table.now source.now.modules.now }
     ensures inside { OnOk result (inside.new ≡ inside.old) }
     ensures path { OnOk result (walk.new.path ≡ walk.old.path) }
+    ensures here { OnOk result (here.new ≡ here.old) }
     ensures walked { IfOk result (λ g. (t : refused.Totals) (at : Place) (paths : SpecConst → List ℕ)
         → IsSoFar source.now.modules.now walk.old.totals t → IsBlock (block_of block.now)
-        → IsWithin inside.old walk.old.path at
+        → IsHere inside.old here.old walk.old.path at
         → AreWalked source.now.modules.now t walk.new.totals (loop_walk is_valued head.now at (λ c.
         turn_walk is_valued source.now.modules.now (below source.now) (block_of block.now)
         (turn_place at head.now.variable c) (paths c))) g) }
@@ -203,7 +211,7 @@ fn walk_turns(
         let Some(next) = next_value(walk.alloc, head, value, inside)? else {
             return Ok(None);
         };
-        match walk_turn(source, walk, inside, head, value, block)? {
+        match walk_turn(source, walk, inside, &mut here.reached, head, value, block)? {
             None => {}
             Some(fault) => return Ok(Some(fault)),
         }
@@ -219,6 +227,7 @@ fn walk_turn(
     source: &Source<'_>,
     walk: &mut Walk,
     inside: &mut Inside,
+    reached: &mut Reached,
     head: &LoopHead,
     value: Const,
     block: &Block,
@@ -226,19 +235,50 @@ fn walk_turn(
     requires { AreModules source.now.table.now source.now.modules.now }
     ensures inside { OnOk result (inside.new ≡ inside.old) }
     ensures path { OnOk result (walk.new.path ≡ walk.old.path) }
+    ensures reached { OnOk result (reached.new ≡ reached.old) }
     ensures walked { IfOk result (λ g. (t : refused.Totals) (at : Place) (text : List ℕ)
         → IsSoFar source.now.modules.now walk.old.totals t → IsBlock (block_of block.now)
-        → IsWithin inside.old walk.old.path at → AreWalked source.now.modules.now t walk.new.totals
+        → IsWithin inside.old walk.old.path at → IsReached reached.old at at.earlier
+        → AreWalked source.now.modules.now t walk.new.totals
         (turn_walk is_valued source.now.modules.now (below source.now) (block_of block.now)
         (turn_place at head.now.variable value) text) g) }
 {
-    turns::enter(walk.alloc, head, value, inside)?;
+    let own = begin_block(walk, block);
+    if own.is_some() {
+        return Ok(own);
+    }
+    turns::enter(walk.alloc, head, value, inside, reached)?;
     let fault = walk_scope(source, walk, inside, items_of(block))?;
-    turns::leave(inside);
+    turns::leave(walk.alloc, inside, reached);
     Ok(fault)
 }
 
-/// The items of a block that makes a scope.
+/// The items of a block of an `if` that makes a scope.
+#[cycle(walk)]
+fn walk_inner(
+    source: &Source<'_>,
+    walk: &mut Walk,
+    inside: &mut Inside,
+    here: &mut Here,
+    all: &[Item],
+) -> Result<Option<ElabFault>, Memory>
+    requires { AreModules source.now.table.now source.now.modules.now }
+    ensures inside { OnOk result (inside.new ≡ inside.old) }
+    ensures path { OnOk result (walk.new.path ≡ walk.old.path) }
+    ensures here { OnOk result (here.new ≡ here.old) }
+    ensures walked { IfOk result (λ g. (t : refused.Totals) (at : Place) (text : List ℕ)
+        → IsSoFar source.now.modules.now walk.old.totals t → AreWellFormed (tree.items all.now)
+        → IsHere inside.old here.old walk.old.path at → AreWalked source.now.modules.now t walk.new.totals
+        (items_walk is_valued source.now.modules.now (below source.now) (tree.items all.now)
+        (block_place at text (tree.items all.now)) 1) g) }
+{
+    here.reached.hand_over(walk.alloc, &mut inside.around)?;
+    let fault = walk_scope(source, walk, inside, all)?;
+    here.reached.take_back(walk.alloc, &mut inside.around);
+    Ok(fault)
+}
+
+/// The items of a block that makes a scope, behind what was handed over to it.
 #[cycle(walk)]
 fn walk_scope(
     source: &Source<'_>,
@@ -251,7 +291,7 @@ fn walk_scope(
     ensures path { OnOk result (walk.new.path ≡ walk.old.path) }
     ensures walked { IfOk result (λ g. (t : refused.Totals) (at : Place) (text : List ℕ)
         → IsSoFar source.now.modules.now walk.old.totals t → AreWellFormed (tree.items all.now)
-        → IsWithin inside.old walk.old.path at → AreWalked source.now.modules.now t walk.new.totals
+        → IsHanded inside.old walk.old.path at → AreWalked source.now.modules.now t walk.new.totals
         (items_walk is_valued source.now.modules.now (below source.now) (tree.items all.now)
         (block_place at text (tree.items all.now)) 1) g) }
 {
@@ -274,7 +314,7 @@ fn walk_instance(
     ensures walked { IfOk result (λ g. (t : refused.Totals) (at : Place)
         → IsSoFar source.now.modules.now walk.old.totals t → contains_name at.modules instance.now.definition ≡ false
         → IsWithin inside.now walk.old.path at → AreWalked source.now.modules.now t walk.new.totals
-        (instance_steps source.now.modules.now (below source.now) at instance.now) g) }
+        (instance_steps is_valued source.now.modules.now (below source.now) at instance.now) g) }
 {
     let Some(module) = source.table.find(source.modules, &instance.definition) else {
         return Ok(None);
@@ -313,7 +353,7 @@ fn walk_module(
     ensures walked { IfOk result (λ g. (t : refused.Totals) (at : Place) (text : List ℕ)
         → IsSoFar source.now.modules.now walk.old.totals t → IsModule module.now
         → walk.old.path ≡ at.modules ++ module.now.name ∷ [] → IsWithin inside.now at.modules at
-        → let u = use_of at.scopes instance.now in AreWalked source.now.modules.now t walk.new.totals
+        → let u = use_of (is_valued at) at.scopes instance.now in AreWalked source.now.modules.now t walk.new.totals
         (within.front_steps at module.now u text instance.now
         ++ within.opened_walk is_valued source.now.modules.now (below source.now)
         (module_place module.now u text at.modules) module.now u) g) }

@@ -149,10 +149,10 @@ module _ (test : Option Expr → Bool) (nothing : test None ≡ false) (text : L
       ∙ front x xs seen joined
 
 pub joined_are : (names values : List Names) (clocks : List ℕ → Bool) (known : List Names) (ss : List Scope)
-    (x : Instance) (all : List Connection) (set : NameSet)
+    (x : Instance) (has_value : Expr → Bool) (all : List Connection) (set : NameSet)
     → ((text : List ℕ) → contains set text ≡ joined_to (is_clock clocks values) all (λ t. false) (λ t. false) text)
-    → Stands names values clocks known ss → x.connections ≡ all → AreInputs (i.Joined set) (use_of ss x)
-joined_are names values clocks known ss x all set made h e = record {
+    → Stands names values clocks known ss → x.connections ≡ all → AreInputs (i.Joined set) (use_of has_value ss x)
+joined_are names values clocks known ss x has_value all set made h e = record {
   top = refl;
   stands = λ text.
       ap (λ b. if b then class.Clock else class.Net)

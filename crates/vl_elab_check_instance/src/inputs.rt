@@ -1,7 +1,8 @@
 //! What the inputs of an instance stand for.
-ghost use Rattle.std.specs.Prelude.{◌≡◌, ◌&&◌, ◌||◌, ℕ, List, false, bytes_eq, IfOk, OnOk};
+ghost use Rattle.std.specs.Prelude.{◌≡◌, ◌&&◌, ◌||◌, ℕ, List, Bool, false, bytes_eq, IfOk, OnOk};
 ghost use Rattle.vl_mean.specs.Scopes.{Scope};
 ghost use Rattle.vl_mean.specs.Walk.{use_of};
+ghost use Rattle.vl_tree.specs.Expr.{Expr};
 ghost use Rattle.vl_tree.specs.declared.part.Instance.{Instance as SpecInstance};
 ghost use Rattle.vl_elab_spec.specs.Meanings as meanings;
 ghost use Rattle.vl_elab_names.specs.Known.{contains};
@@ -75,8 +76,9 @@ pub fn joined_inputs(
     clocks: &NameSet,
 ) -> Result<Inputs, Memory>
     ensures { IfOk result (λ inputs. (names known : List meanings.Names) (ss : List Scope) (x : SpecInstance)
+        (has_value : Expr → Bool)
         → Stands names numbers.now (contains clocks.now) known ss → x.connections ≡ all.now
-        → AreInputs inputs (use_of ss x)) }
+        → AreInputs inputs (use_of has_value ss x)) }
 {
     Ok(Inputs::Joined(all_joined(alloc, all, numbers, clocks)?))
 }

@@ -6,7 +6,6 @@ use Rattle.std.proofs.Common.{ap, sym, ◌∙◌, arith, Bor, true}
 use Rattle.std.proofs.lemmas.List.{append_assoc, append-nil, map-append, take-append-drop}
 use Rattle.vl_tree.specs.declared.declaration.Parameter.{Parameter}
 use Rattle.vl_tree.specs.declared.declaration.ParameterKind.{ParameterKind}
-use Rattle.vl_tree.specs.Expr.{Expr}
 use Rattle.vl_size.proofs.Entries.{copied_some}
 use Rattle.vl_mean.specs.Walk.{Place}
 use Rattle.vl_elab_spec.specs.declared.elab_fault.ElabFault.{ElabFault}
@@ -22,12 +21,13 @@ use Rattle.vl_elab_scope.specs.Alike.{Alike}
 use Rattle.vl_elab_scope.proofs.Exprs as x
 use Rattle.vl_elab_scope.proofs.Items as y
 use Rattle.vl_elab_const.specs.declared.given.Given.{Given}
+use Rattle.vl_elab_const.specs.declared.given.Value.{Value}
 use Rattle.vl_elab_const.specs.Given.{value_given}
 
 -- ---- one parameter
 
 -- whether it is given a value
-pub given_test : (given : Given) (text : List ℕ) (b : Bool) (r : Option (Bor Expr)) → b ≡ is_some r
+pub given_test : (given : Given) (text : List ℕ) (b : Bool) (r : Option (Bor Value)) → b ≡ is_some r
     → option_copied r ≡ value_given given text → b ≡ is_some (value_given given text)
 given_test given text b r h v = h ∙ copied_some r ∙ ap is_some v
 

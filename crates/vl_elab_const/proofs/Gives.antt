@@ -2,22 +2,27 @@
 use Rattle.std.specs.Prelude.{◌≡◌, refl, ℕ, List, [], ◌∷◌, ◌++◌, Bool, true, false, ◌||◌, bytes_eq, is_some}
 use Rattle.std.specs.Prelude.{Option, Some, None, if◌then◌else◌}
 use Rattle.std.specs.Option.{option_copied}
-use Rattle.std.proofs.Common.{ap, sym, ◌∙◌, Bor}
+use Rattle.std.proofs.Common.{ap, sym, ◌∙◌, subst, Bor}
 use Rattle.std.proofs.lemmas.Slice.Eq.{bytes_eq-Decides}
 use Rattle.vl_size.proofs.Entries.{copied_some}
 use Rattle.vl_tree.specs.declared.part.Connection.{Connection}
 use Rattle.vl_tree.specs.Expr.{Expr}
 use Rattle.vl_size.specs.Size.{Operand, operand_of, no_names}
 use Rattle.vl_mean.specs.Constants.{constant_operand}
-use Rattle.vl_mean.specs.Declarations.{Overrides, override_or}
+use Rattle.vl_mean.specs.Declarations.{Overrides, is_value_or, override_or}
 use Rattle.vl_mean.specs.Scopes.{Scope, constant_in}
 use Rattle.vl_mean.specs.Walk.{override_of, overrides_of}
 use Rattle.fv_text.proofs.Lookups.{bytes_eq-swap}
 use Rattle.vl_elab_spec.specs.Expressions.{known}
 use Rattle.vl_elab_spec.specs.Meanings.{Names, is_overridden}
+use Rattle.vl_elab_spec.specs.Items.{has_value}
+use Rattle.vl_elab_scope.proofs.Sizes.{same_context}
+use Rattle.vl_elab_scope.specs.Alike.{Alike}
 use Rattle.vl_elab_scope.specs.Texts.{or_else}
+use Rattle.vl_elab_const.specs.declared.given.Value.{Value}
 use Rattle.vl_elab_const.specs.declared.given.Given.{Given}
-use Rattle.vl_elab_const.specs.Given.{IsGiven, value_given, operand_or, named_value, written_value, first_value}
+use Rattle.vl_elab_const.specs.Given.{IsGiven, value_given, known_or, operand_or, named_value, written_value}
+use Rattle.vl_elab_const.specs.Given.{first_value}
 use Rattle.vl_elab_const.specs.Numbers.{HaveNumbers}
 
 or_none : {A : Type 0} (o : Option A) → or_else o None ≡ o
@@ -38,7 +43,7 @@ none_put : {A : Type 0} (o t : Option A) → is_some o ≡ false → t ≡ or_el
 none_put None t h = refl
 none_put (Some x) t h = cc
 
-module _ (old : List ℕ → Option Expr) (name other : List ℕ) (v : Expr) where
+module _ (old : List ℕ → Option Value) (name other : List ℕ) (v : Value) where
   -- one that has a value keeps it
   pub value_kept : is_some (old name) ≡ true → old other ≡ or_else (old other) (named_value name v other)
   value_kept h = by (bytes_eq name other) refl
@@ -49,7 +54,7 @@ module _ (old : List ℕ → Option Expr) (name other : List ℕ) (v : Expr) whe
       by false e = sym (or_none (old other))
 
   -- one that has none gets it
-  pub value_put : (new : Option Expr) → is_some (old name) ≡ false
+  pub value_put : (new : Option Value) → is_some (old name) ≡ false
       → new ≡ (if bytes_eq name other then Some v else old other)
       → new ≡ or_else (old other) (named_value name v other)
   value_put new h made = made ∙ by (bytes_eq name other) refl
@@ -61,84 +66,125 @@ module _ (old : List ℕ → Option Expr) (name other : List ℕ) (v : Expr) whe
       by false e = sym (or_none (old other))
 
 -- what a look-up says of a name
-pub said_by : (values : List ℕ → Option Expr) (text key : List ℕ) (b t : Bool) (r : Option (Bor Expr)) → b ≡ is_some r
+pub said_by : (values : List ℕ → Option Value) (text key : List ℕ) (b t : Bool) (r : Option (Bor Value)) → b ≡ is_some r
     → b ≡ t → option_copied r ≡ values text → text ≡ key → is_some (values key) ≡ t
 said_by values text key b t r h k v n =
     ap (λ n. is_some (values n)) (sym n) ∙ ap is_some (sym v) ∙ sym (copied_some r) ∙ sym h ∙ k
 
-pub said : (given : Given) (text key : List ℕ) (b t : Bool) (r : Option (Bor Expr)) → b ≡ is_some r → b ≡ t
+pub said : (given : Given) (text key : List ℕ) (b t : Bool) (r : Option (Bor Value)) → b ≡ is_some r → b ≡ t
     → option_copied r ≡ value_given given text → text ≡ key → is_some (value_given given key) ≡ t
 said given text key b t r h k v n = said_by (value_given given) text key b t r h k v n
 
 -- ---- the loop
 
-pub gives_start : (old : List ℕ → Option Expr) (ns : List Names) (all : List Connection) (text : List ℕ)
-    → old text ≡ None → or_else (old text) (first_value ns all text) ≡ first_value ns all text
-gives_start old ns all text e = ap (λ o. or_else o (first_value ns all text)) e
+pub gives_start : (old : List ℕ → Option Value) (valued : Expr → Bool) (ns : List Names) (all : List Connection) (text : List ℕ)
+    → old text ≡ None → or_else (old text) (first_value valued ns all text) ≡ first_value valued ns all text
+gives_start old valued ns all text e = ap (λ o. or_else o (first_value valued ns all text)) e
 
-pub gives_on : (old new : Option Expr) (ns : List Names) (x : Connection) (front rest : List Connection)
-    (whole : Option Expr) (text : List ℕ) → front ≡ x ∷ rest
-    → new ≡ or_else old (written_value ns x.port x.value text)
-    → or_else old (first_value ns front text) ≡ whole → or_else new (first_value ns rest text) ≡ whole
-gives_on old new ns x front rest whole text e made h =
-    ap (λ o. or_else o (first_value ns rest text)) made
-    ∙ or_or old (written_value ns x.port x.value text) (first_value ns rest text)
-    ∙ ap (λ l. or_else old (first_value ns l text)) (sym e) ∙ h
+pub gives_on : (old new : Option Value) (valued : Expr → Bool) (ns : List Names) (x : Connection) (front rest : List Connection)
+    (whole : Option Value) (text : List ℕ) → front ≡ x ∷ rest
+    → new ≡ or_else old (written_value valued ns x.port x.value text)
+    → or_else old (first_value valued ns front text) ≡ whole → or_else new (first_value valued ns rest text) ≡ whole
+gives_on old new valued ns x front rest whole text e made h =
+    ap (λ o. or_else o (first_value valued ns rest text)) made
+    ∙ or_or old (written_value valued ns x.port x.value text) (first_value valued ns rest text)
+    ∙ ap (λ l. or_else old (first_value valued ns l text)) (sym e) ∙ h
 
-pub gives_end : (made : Option Expr) (ns : List Names) (front : List Connection) (whole : Option Expr)
-    (text : List ℕ) → front ≡ [] → or_else made (first_value ns front text) ≡ whole → made ≡ whole
-gives_end made ns front whole text e h =
-    sym (or_none made) ∙ ap (λ l. or_else made (first_value ns l text)) (sym e) ∙ h
+pub gives_end : (made : Option Value) (valued : Expr → Bool) (ns : List Names) (front : List Connection) (whole : Option Value)
+    (text : List ℕ) → front ≡ [] → or_else made (first_value valued ns front text) ≡ whole → made ≡ whole
+gives_end made valued ns front whole text e h =
+    sym (or_none made) ∙ ap (λ l. or_else made (first_value valued ns l text)) (sym e) ∙ h
 
 -- ---- the whole
 
-module _ (ns : List Names) (ss : List Scope) (h : HaveNumbers ns ss) where
+module _ (valued : Expr → Bool) (ns : List Names) (ss : List Scope) (h : HaveNumbers ns ss) where
   operand_of_known : (e : Expr) → constant_operand (constant_in ss) e ≡ operand_of [] no_names (known ns e)
   operand_of_known e = sym (λ i. constant_operand (λ text. h text i) e)
 
-  value_here : (c : Connection) (text : List ℕ) (x : Operand) (os : Overrides) (rest : Option Expr)
+  abbrev made : Expr → Value
+  made e = record { expr = known ns e; has_value = valued e }
+
+  value_here : (c : Connection) (text : List ℕ) (x : Operand) (os : Overrides) (rest : Option Value)
       → override_or os text x ≡ operand_or rest x → (o : Option Expr)
-      → override_or (override_of ss c.port o ++ os) text x
-      ≡ operand_or (or_else (written_value ns c.port o text) rest) x
+      → override_or (override_of valued ss c.port o ++ os) text x
+      ≡ operand_or (or_else (written_value valued ns c.port o text) rest) x
   value_here c text x os rest h None = h
   value_here c text x os rest h (Some e) = by (bytes_eq text c.port) (bytes_eq c.port text) (bytes_eq-swap text c.port)
     where
       by : (a b : Bool) → a ≡ b → (if a then constant_operand (constant_in ss) e else override_or os text x)
-          ≡ operand_or (or_else (if b then Some (known ns e) else None) rest) x
+          ≡ operand_or (or_else (if b then Some (made e) else None) rest) x
       by true true k = operand_of_known e
       by true false k = cc
       by false true k = cc
       by false false k = h
 
   value_is : (xs : List Connection) (text : List ℕ) (x : Operand)
-      → override_or (overrides_of ss xs) text x ≡ operand_or (first_value ns xs text) x
+      → override_or (overrides_of valued ss xs) text x ≡ operand_or (first_value valued ns xs text) x
   value_is [] text x = refl
   value_is (c ∷ cs) text x =
-      value_here c text x (overrides_of ss cs) (first_value ns cs text) (value_is cs text x) c.value
+      value_here c text x (overrides_of valued ss cs) (first_value valued ns cs text) (value_is cs text x) c.value
 
-  there_here : (c : Connection) (text : List ℕ) (os : Overrides) (rest : Option Expr)
+  known_here : (c : Connection) (text : List ℕ) (t : Bool) (os : Overrides) (rest : Option Value)
+      → is_value_or os text t ≡ known_or rest t → (o : Option Expr)
+      → is_value_or (override_of valued ss c.port o ++ os) text t
+      ≡ known_or (or_else (written_value valued ns c.port o text) rest) t
+  known_here c text t os rest h None = h
+  known_here c text t os rest h (Some e) = by (bytes_eq text c.port) (bytes_eq c.port text) (bytes_eq-swap text c.port)
+    where
+      by : (a b : Bool) → a ≡ b → (if a then valued e else is_value_or os text t)
+          ≡ known_or (or_else (if b then Some (made e) else None) rest) t
+      by true true k = refl
+      by true false k = cc
+      by false true k = cc
+      by false false k = h
+
+  known_is : (xs : List Connection) (text : List ℕ) (t : Bool)
+      → is_value_or (overrides_of valued ss xs) text t ≡ known_or (first_value valued ns xs text) t
+  known_is [] text t = refl
+  known_is (c ∷ cs) text t =
+      known_here c text t (overrides_of valued ss cs) (first_value valued ns cs text) (known_is cs text t) c.value
+
+  there_here : (c : Connection) (text : List ℕ) (os : Overrides) (rest : Option Value)
       → is_overridden os text ≡ is_some rest → (o : Option Expr)
-      → is_overridden (override_of ss c.port o ++ os) text
-      ≡ is_some (or_else (written_value ns c.port o text) rest)
+      → is_overridden (override_of valued ss c.port o ++ os) text
+      ≡ is_some (or_else (written_value valued ns c.port o text) rest)
   there_here c text os rest h None = h
   there_here c text os rest h (Some e) = by (bytes_eq text c.port) (bytes_eq c.port text) (bytes_eq-swap text c.port)
     where
       by : (a b : Bool) → a ≡ b → (a || is_overridden os text)
-          ≡ is_some (or_else (if b then Some (known ns e) else None) rest)
+          ≡ is_some (or_else (if b then Some (made e) else None) rest)
       by true true k = refl
       by true false k = cc
       by false true k = cc
       by false false k = h
 
   there_is : (xs : List Connection) (text : List ℕ)
-      → is_overridden (overrides_of ss xs) text ≡ is_some (first_value ns xs text)
+      → is_overridden (overrides_of valued ss xs) text ≡ is_some (first_value valued ns xs text)
   there_is [] text = refl
   there_is (c ∷ cs) text =
-      there_here c text (overrides_of ss cs) (first_value ns cs text) (there_is cs text) c.value
+      there_here c text (overrides_of valued ss cs) (first_value valued ns cs text) (there_is cs text) c.value
 
-  pub all_given : (given : List ℕ → Option Expr) (xs : List Connection)
-      → ((text : List ℕ) → given text ≡ first_value ns xs text) → IsGiven given (overrides_of ss xs)
+  pub all_given : (given : List ℕ → Option Value) (xs : List Connection)
+      → ((text : List ℕ) → given text ≡ first_value valued ns xs text) → IsGiven given (overrides_of valued ss xs)
   all_given given xs e = record {
     value = λ text x. value_is xs text x ∙ ap (λ o. operand_or o x) (sym (e text));
+    known = λ text t. known_is xs text t ∙ ap (λ o. known_or o t) (sym (e text));
     there = λ text. there_is xs text ∙ ap is_some (sym (e text));
   }
+
+-- over names that mean the same the same expressions have values
+judged_same : (names known : List Names) → Alike names known → (ss : List Scope) (xs : List Connection)
+    → overrides_of (has_value names) ss xs ≡ overrides_of (has_value known) ss xs
+judged_same names known same ss [] = refl
+judged_same names known same ss (c ∷ cs) = λ i. by c.value i ++ judged_same names known same ss cs i
+  where
+    by : (o : Option Expr) → override_of (has_value names) ss c.port o ≡ override_of (has_value known) ss c.port o
+    by None = refl
+    by (Some e) =
+        ap (λ b. record { name = c.port; operand = constant_operand (constant_in ss) e; has_value = b } ∷ [])
+        (ap (λ c. is_some c.size) (same_context names known same e))
+
+pub judged_given : (names known : List Names) → Alike names known → (ss : List Scope) (xs : List Connection)
+    (given : List ℕ → Option Value) → IsGiven given (overrides_of (has_value names) ss xs)
+    → IsGiven given (overrides_of (has_value known) ss xs)
+judged_given names known same ss xs given h = subst (IsGiven given) (judged_same names known same ss xs) h

@@ -11,6 +11,7 @@ use Rattle.vl_mean.specs.Declarations.{Overrides, of_range, parameter_value}
 use Rattle.vl_mean.specs.Scopes.{Scope, constant_in}
 use Rattle.vl_elab_spec.specs.Expressions.{known}
 use Rattle.vl_elab_spec.specs.Meanings.{Names}
+use Rattle.vl_elab_const.specs.declared.given.Value.{Value}
 use Rattle.vl_elab_const.specs.Given.{IsGiven, operand_or}
 use Rattle.vl_elab_const.specs.Numbers.{HaveNumbers, number_in_range, parameter_number, given_or}
 
@@ -27,7 +28,7 @@ module _ (ns : List Names) (ss : List Scope) (h : HaveNumbers ns ss) where
   same_operand e = λ i. constant_operand (λ text. h text i) e
 
   -- the value of a parameter
-  pub number_is : (given : List ℕ → Option Expr) (os : Overrides) → IsGiven given os → (x : Parameter)
+  pub number_is : (given : List ℕ → Option Value) (os : Overrides) → IsGiven given os → (x : Parameter)
       → parameter_number ns given x ≡ parameter_value os ss x
   number_is given os g x =
       let own = constant_operand (constant_in ss) x.value in
@@ -35,7 +36,7 @@ module _ (ns : List Names) (ss : List Scope) (h : HaveNumbers ns ss) where
       x.shape.range
       ∙ ap (λ y. of_range ss x.shape.signed y x.shape.range) (by (given x.name) ∙ sym (g.value x.name own))
     where
-      by : (o : Option Expr) → operand_of [] no_names (given_or o (known ns x.value))
+      by : (o : Option Value) → operand_of [] no_names (given_or o (known ns x.value))
           ≡ operand_or o (constant_operand (constant_in ss) x.value)
       by None = same_operand x.value
-      by (Some e) = refl
+      by (Some v) = refl

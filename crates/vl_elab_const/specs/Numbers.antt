@@ -11,6 +11,7 @@ use Rattle.vl_mean.specs.Scopes.{Scope, constant_in}
 use Rattle.vl_mean.specs.Walk.{genvar_value}
 use Rattle.vl_elab_spec.specs.Expressions.{known}
 use Rattle.vl_elab_spec.specs.Meanings.{Names, constants, declared_width}
+use Rattle.vl_elab_const.specs.declared.given.Value.{Value}
 
 -- the names that mean a constant are those of the scopes, with their numbers
 abbrev pub HaveNumbers : List Names → List Scope → Type 0
@@ -31,12 +32,12 @@ number_in_range ns signed x (Some r) =
     let n = width_in_range (declared_width ns (Some r)) in cut_to n signed (x.at (max n x.size) x.sign)
 
 -- the expression that is given, or else the parameter's own
-abbrev pub given_or : Option Expr → Expr → Expr
+abbrev pub given_or : Option Value → Expr → Expr
 given_or None e = e
-given_or (Some given) e = given
+given_or (Some v) e = v.expr
 
 -- the value of a parameter among constants with these numbers
-abbrev pub parameter_number : List Names → (List ℕ → Option Expr) → Parameter → Const
+abbrev pub parameter_number : List Names → (List ℕ → Option Value) → Parameter → Const
 parameter_number ns given x =
     let value = given_or (given x.name) (known ns x.value) in
     number_in_range ns x.shape.signed (operand_of [] no_names value) x.shape.range

@@ -13,7 +13,7 @@ mod operation;
 mod parameter;
 mod ranges;
 
-pub use given::{Given, given_by};
+pub use given::{Given, Value, given_by, judged_by};
 pub use number::{genvar_value, is_true_in, own_bound, value_in_turn};
 pub use parameter::parameter_value;
 pub use ranges::{Extent, extent_in, words_in};

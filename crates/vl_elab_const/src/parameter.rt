@@ -125,7 +125,7 @@ fn number(
 {
     match given.get(&parameter.name) {
         None => own_value(alloc, parameter, numbers),
-        Some(value) => in_range(alloc, &parameter.shape, value, numbers),
+        Some(value) => in_range(alloc, &parameter.shape, &value.expr, numbers),
     }
 }
 

@@ -1,10 +1,9 @@
 -- What is counted over the numbers of constants is what the definitions count over the scopes.
-use Rattle.std.specs.Prelude.{◌≡◌, refl, ℕ, zero, suc, ◌+◌, List, [], ◌∷◌, Bool, true, false, ◌&&◌, is_some, bytes_eq}
+use Rattle.std.specs.Prelude.{◌≡◌, refl, ℕ, zero, suc, ◌+◌, List, [], ◌∷◌, Bool, true, false, bytes_eq}
 use Rattle.std.specs.Prelude.{Option, Some, None, if◌then◌else◌}
 use Rattle.std.proofs.Common.{ap, sym, ◌∙◌, subst}
 use Rattle.fv_text.specs.declared.pos.Pos.{Pos}
 use Rattle.vl_tree.specs.Attributes.{Attributes}
-use Rattle.vl_tree.specs.Expr.{Expr}
 use Rattle.vl_tree.specs.declared.declaration.DeclaredName.{DeclaredName}
 use Rattle.vl_tree.specs.declared.declaration.Range.{Range}
 use Rattle.vl_tree.specs.declared.declaration.Shape.{Shape}
@@ -27,17 +26,12 @@ use Rattle.vl_mean.specs.FlatLaw.{all_names_count, name_count as count_of, nodes
 use Rattle.vl_mean.specs.Scopes.{Scope, constant_in, constant_unless}
 use Rattle.vl_mean.specs.Walk.{Place, with_genvar, goes_on, next_turn, first_turn, genvar_value}
 use Rattle.vl_elab_spec.specs.Counts as counts
-use Rattle.vl_elab_spec.specs.Items.{has_value, is_valued}
 use Rattle.vl_elab_spec.specs.Meanings.{Names, undeclared, constant, is_undeclared, meaning_in, constants, value_of}
-use Rattle.vl_elab_spec.specs.Meanings.{meanings_at}
-use Rattle.vl_elab_scope.specs.Alike.{Alike}
-use Rattle.vl_elab_scope.proofs.Sizes.{same_context}
 use Rattle.vl_elab_const.specs.Numbers.{HaveNumbers, holds, genvar_number}
-use Rattle.vl_elab_count.specs.Parts.{HasBlock, TurnsHave}
+use Rattle.vl_elab_count.specs.Parts.{TurnsHave}
 use Rattle.vl_elab_check_item.specs.declared.reach.HeadValues.{HeadValues}
 use Rattle.vl_elab_check_item.specs.TurnParts.{GoesBy, in_turn}
 use Rattle.vl_elab_count.specs.Counts.{name_count, names_count, item_count, turn_nodes, one_turn_nodes, begun_nodes}
-use Rattle.vl_elab_count.specs.Counts.{if_has_block}
 
 -- ---- names
 
@@ -94,8 +88,8 @@ module _ (ns : List Names) (at : Place) (h : HaveNumbers ns at.scopes) (head : L
       λ i. is_true (constant_operand (λ text. inside c text i) head.condition) in
       let next : genvar_number (in_turn head.variable c ns) head.next ≡ next_turn head at.scopes c =
       λ i. genvar_value (constant_operand (λ text. inside c text i) head.next) in
-      (λ i. nodes head.condition + (if goes i then nodes head.next + 1 + turn_nodes n ns head (next i) else 0))
-      ∙ ap (λ more. nodes head.condition + (if goes_on head at.scopes c then nodes head.next + 1 + more else 0))
+      (λ i. nodes head.condition + (if goes i then nodes head.next + turn_nodes n ns head (next i) else 0))
+      ∙ ap (λ more. nodes head.condition + (if goes_on head at.scopes c then nodes head.next + more else 0))
       (same_turns n (next_turn head at.scopes c))
 
   pub first : genvar_number ns head.start ≡ first_turn head at.scopes
@@ -111,7 +105,7 @@ module _ (ns : List Names) (at : Place) (h : HaveNumbers ns at.scopes) (head : L
       ap (one_turn_nodes ns head) first
       ∙ (λ i. nodes head.condition
       + (if is_true (constant_operand (λ text. inside (first_turn head at.scopes) text i) head.condition)
-      then nodes head.next + 1 else 0))
+      then nodes head.next else 0))
 
   -- by what has a value in the head
   module _ (values : HeadValues) (by : GoesBy values head at) where
@@ -138,26 +132,7 @@ module _ (ns : List Names) (at : Place) (h : HaveNumbers ns at.scopes) (head : L
 
 -- ---- an item by its parts
 
-module _ (at : Place) (ns numbers : List Names) (same : Alike ns (meanings_at at)) (agree : HaveNumbers numbers at.scopes)
-    (c : Expr) where
-  valued : has_value ns c ≡ is_valued at c
-  valued = ap (λ k. is_some k.size) (same_context ns (meanings_at at) same c)
-
-  condition_holds : (has_value ns c && holds numbers c)
-      ≡ (is_valued at c && is_true (constant_operand (constant_in at.scopes) c))
-  condition_holds = λ i. valued i && is_true (constant_operand (λ text. agree text i) c)
-
 module _ (at : Place) (x : Item) (attrs : Attributes) (p : Pos) (b : declared.Block) where
-  pub block_has : (c : Expr) (second : Option declared.Block) (ns numbers : List Names) (t : Bool)
-      → x ≡ shown attrs p (k.If c b second) → Alike ns (meanings_at at) → HaveNumbers numbers at.scopes
-      → t ≡ if_has_block second ns numbers c → HasBlock at x t
-  block_has c None ns numbers t same alike agree made =
-      let P : Item → Type 0 = λ y. HasBlock at y t in
-      subst P (sym same) (sym (made ∙ condition_holds at ns numbers alike agree c))
-  block_has c (Some second) ns numbers t same alike agree made =
-      let P : Item → Type 0 = λ y. HasBlock at y t in
-      subst P (sym same) (sym (made ∙ valued at ns numbers alike agree c))
-
   pub turns_have : (head : LoopHead) (n : ℕ) → x ≡ shown attrs p (k.For head b)
       → n ≡ capped (counts.loop_nodes head at) → TurnsHave at x n
   turns_have head n same made =

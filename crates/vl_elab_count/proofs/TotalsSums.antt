@@ -43,7 +43,7 @@ module _ (ns : List Names) (head : LoopHead) where
       (chosen : o ≡ (if goes c then Some (next c) else None))
       (before : capped (old + turn_nodes n ns head c) ≡ whole) where
     abbrev rest : Bool → ℕ
-    rest b = if b then nodes head.next + 1 + turn_nodes (n - 1) ns head (next c) else 0
+    rest b = if b then nodes head.next + turn_nodes (n - 1) ns head (next c) else 0
 
     here : capped (between + rest (goes c)) ≡ whole
     here =
@@ -71,11 +71,11 @@ module _ (ns : List Names) (head : LoopHead) where
         no_more a = omega arith
 
     -- one turn more
-    pub turns_on : (v : Const) (step new : ℕ) → o ≡ Some v → step ≡ capped (nodes head.next + 1)
+    pub turns_on : (v : Const) (step new : ℕ) → o ≡ Some v → step ≡ capped (nodes head.next)
         → new ≡ capped (between + step) → capped (new + turn_nodes (n - 1) ns head v) ≡ whole
     turns_on v step new some h made =
         ap (λ w. capped (new + turn_nodes (n - 1) ns head w)) (same_next (goes c) v chosen some)
-        ∙ first_more between (nodes head.next + 1) step (turn_nodes (n - 1) ns head (next c)) new h made
+        ∙ first_more between (nodes head.next) step (turn_nodes (n - 1) ns head (next c)) new h made
         ∙ ap (λ b. capped (between + rest b)) (sym (goes_on (goes c) v chosen some)) ∙ here
 
 -- the last sum

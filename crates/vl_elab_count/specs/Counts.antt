@@ -1,17 +1,14 @@
 -- Between functions: Names that are declared and nodes of turns, over the numbers of constants: what the functions
 -- that count them promise one another. IEEE 1364-2005, sections 4.9 and 12.4.1; what counts is a rule of this project.
-use Rattle.std.specs.Prelude.{ℕ, zero, suc, ◌+◌, List, [], ◌∷◌, Bool, ◌&&◌, Option, Some, None, if◌then◌else◌}
+use Rattle.std.specs.Prelude.{ℕ, zero, suc, ◌+◌, List, [], ◌∷◌, Bool, Option, Some, None, if◌then◌else◌}
 use Rattle.vl_tree.specs.declared.declaration.DeclaredName.{DeclaredName}
 use Rattle.vl_tree.specs.declared.declaration.Range.{Range}
 use Rattle.vl_tree.specs.declared.part.LoopHead.{LoopHead}
-use Rattle.vl_tree.specs.declared.item.Block as declared
-use Rattle.vl_tree.specs.Expr.{Expr}
 use Rattle.vl_tree.specs.Item.{Item, declaration, integer}
 use Rattle.vl_size.specs.Table.{span}
 use Rattle.vl_mean.specs.declared.const_number.Const.{Const}
 use Rattle.vl_mean.specs.FlatLaw.{nodes}
 use Rattle.vl_mean.specs.Walk.{most_turns}
-use Rattle.vl_elab_spec.specs.Items.{has_value}
 use Rattle.vl_elab_spec.specs.Meanings.{Names, bound}
 use Rattle.vl_elab_const.specs.Numbers.{holds, genvar_number}
 use Rattle.vl_elab_check_item.specs.TurnParts.{in_turn}
@@ -38,20 +35,15 @@ turn_nodes zero ns head c = nodes head.condition
 turn_nodes (suc n) ns head c =
     let inner = in_turn head.variable c ns in
     let more = turn_nodes n ns head (genvar_number inner head.next) in
-    nodes head.condition + (if holds inner head.condition then nodes head.next + 1 + more else 0)
+    nodes head.condition + (if holds inner head.condition then nodes head.next + more else 0)
 
 -- of the first turn alone
 abbrev pub one_turn_nodes : List Names → LoopHead → Const → ℕ
 one_turn_nodes ns head c =
-    nodes head.condition + (if holds (in_turn head.variable c ns) head.condition then nodes head.next + 1 else 0)
+    nodes head.condition + (if holds (in_turn head.variable c ns) head.condition then nodes head.next else 0)
 
 -- of a loop whose first turn has values
 abbrev pub begun_nodes : Bool → List Names → LoopHead → ℕ
 begun_nodes further ns head =
     let first = genvar_number ns head.start in
     if further then turn_nodes most_turns ns head first else one_turn_nodes ns head first
-
--- an `if` with this condition, and perhaps an `else`, has a block to choose
-abbrev pub if_has_block : Option declared.Block → List Names → List Names → Expr → Bool
-if_has_block None names numbers c = has_value names c && holds numbers c
-if_has_block (Some second) names numbers c = has_value names c

@@ -1,19 +1,15 @@
--- Between functions: Nodes of one part of a list, and of an item whose condition and turns are known: what the
--- functions that count them promise one another. Rule of this project.
-use Rattle.std.specs.Prelude.{◌≡◌, ℕ, ◌+◌, Bool, ◌&&◌}
+-- Between functions: Nodes of one part of a list, and of an item whose turns are known: what the functions that count
+-- them promise one another. Rule of this project.
+use Rattle.std.specs.Prelude.{◌≡◌, ℕ, ◌+◌}
 use Rattle.vl_tree.specs.declared.expr.Select.{Select}
 use Rattle.vl_tree.specs.declared.expr.Select.TheVariants as s
 use Rattle.vl_tree.specs.declared.stmt.Arm.{Arm}
 use Rattle.vl_tree.specs.declared.stmt.Arm.TheVariants as a
-use Rattle.vl_tree.specs.Item.{Item, for_loop, if_only, if_else}
-use Rattle.vl_size.specs.Size.{is_true}
+use Rattle.vl_tree.specs.Item.{Item, for_loop}
 use Rattle.vl_mean.specs.ConstantFaults.{capped}
-use Rattle.vl_mean.specs.Constants.{constant_operand}
 use Rattle.vl_mean.specs.FlatLaw.{nodes, stmt_nodes, label_nodes}
-use Rattle.vl_mean.specs.Scopes.{constant_in}
 use Rattle.vl_mean.specs.Walk.{Place}
 use Rattle.vl_elab_spec.specs.Counts.{loop_nodes}
-use Rattle.vl_elab_spec.specs.Items.{is_valued}
 
 -- of one select
 abbrev pub select_nodes : Select → ℕ
@@ -25,12 +21,6 @@ select_nodes (s.Indexed p i n) = nodes i.value + nodes n.value + 1
 abbrev pub arm_nodes : Arm → ℕ
 arm_nodes (a.Labels p es x) = label_nodes es + stmt_nodes x.value
 arm_nodes (a.Default p colon x) = stmt_nodes x.value
-
--- an `if` has a block to choose: its condition has a value, and holds where there is no `else`
-abbrev pub HasBlock : Place → Item → Bool → Type 0
-HasBlock at (if_only attrs p c b) t = (is_valued at c && is_true (constant_operand (constant_in at.scopes) c)) ≡ t
-HasBlock at (if_else attrs p c b d) t = is_valued at c ≡ t
-HasBlock at x t = Unit {0}
 
 -- a loop's turns have so many nodes, up to the limit
 abbrev pub TurnsHave : Place → Item → ℕ → Type 0

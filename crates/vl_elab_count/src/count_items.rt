@@ -1,5 +1,5 @@
 //! Nodes of items, ports and parameters.
-ghost use Rattle.std.specs.Prelude.{◌≡◌, ◌+◌, if◌then◌else◌};
+ghost use Rattle.std.specs.Prelude.{◌≡◌, ◌+◌};
 ghost use Rattle.vl_mean.specs.ConstantFaults.{capped};
 ghost use Rattle.vl_mean.specs.FlatLaw.{nodes, target_nodes as target_nodes_of};
 ghost use Rattle.vl_mean.specs.Walk.{Place};
@@ -9,7 +9,7 @@ ghost use Rattle.vl_elab_count.specs.Parts as spec;
 use crate::exprs::{expr_nodes, target_nodes};
 use crate::stmts::stmt_nodes;
 use vl_mean::widths::plus;
-use vl_tree::{Assignment, DeclaredName, Expr, Item, ItemKind, Parameter, Range};
+use vl_tree::{Assignment, DeclaredName, Expr, Item, ItemKind, Parameter, Range, RegionMark};
 
 /// A value that may be there.
 pub fn optional_nodes(value: &Option<Expr>) -> u64
@@ -106,25 +106,19 @@ fn assignment_nodes(all: &[Assignment]) -> u64
     total
 }
 
-fn chosen_block(block: bool) -> u64
-    ensures { result ≡ (if block then 1 else 0) }
-{
-    if block { 1 } else { 0 }
-}
-
-/// An `if` by itself, with the chosen block.
-fn if_nodes(condition: &Expr, block: bool) -> u64
-    ensures { result ≡ capped (nodes condition.now + 1 + (if block then 1 else 0)) }
-{
-    plus(plus(expr_nodes(condition), 1), chosen_block(block))
-}
-
-/// An item by itself: of a loop its head with all its turns, of an `if` its condition and the chosen block. `block`:
-/// whether an `if` has one; `turns`: how many nodes a loop's turns have.
+/// An `if` by itself.
 #[tactic(auto, using(crate::proofs::CountSums::sums))]
-pub fn item_nodes(item: &Item, block: bool, turns: u64) -> u64
-    ensures { (at : Place) → spec.HasBlock at item.now block → spec.TurnsHave at item.now turns
-        → result ≡ capped (counts.item_nodes at item.now) }
+fn if_nodes(condition: &Expr) -> u64
+    ensures { result ≡ capped (nodes condition.now + 1) }
+{
+    plus(expr_nodes(condition), 1)
+}
+
+/// An item by itself: of a loop its head with all its turns, of an `if` its condition. Blocks are counted where they
+/// are walked, a generate region at its `generate`. `turns`: how many nodes a loop's turns have.
+#[tactic(auto, using(crate::proofs::CountSums::sums))]
+pub fn item_nodes(item: &Item, turns: u64) -> u64
+    ensures { (at : Place) → spec.TurnsHave at item.now turns → result ≡ capped (counts.item_nodes at item.now) }
 {
     match &item.kind {
         ItemKind::Declaration(declaration) => {
@@ -133,12 +127,12 @@ pub fn item_nodes(item: &Item, block: bool, turns: u64) -> u64
             plus(plus(range, names), 1)
         }
         ItemKind::Integer(names) => plus(names_nodes(names.as_slice()), 1),
-        ItemKind::Genvar(names) => plus(names.len() as u64, 1),
         ItemKind::Parameter(_, all) => plus(parameter_nodes(all.as_slice()), 1),
         ItemKind::Assign(all) => plus(assignment_nodes(all.as_slice()), 1),
         ItemKind::Always(_, stmt) | ItemKind::Initial(stmt) => plus(stmt_nodes(stmt), 1),
-        ItemKind::Instance(_) | ItemKind::Generate(_) => 1,
+        ItemKind::Genvar(_) | ItemKind::Instance(_) | ItemKind::Generate(RegionMark::Open) => 1,
+        ItemKind::Generate(RegionMark::Close) => 0,
         ItemKind::For(head, _) => plus(plus(expr_nodes(&head.start), turns), 1),
-        ItemKind::If(condition, _, _) => if_nodes(condition, block),
+        ItemKind::If(condition, _, _) => if_nodes(condition),
     }
 }

@@ -25,7 +25,7 @@ fn turns(alloc: Global, head: &LoopHead, start: Const, numbers: &mut Names) -> R
     ensures count { IfOk result (λ n. n ≡ capped (spec.turn_nodes most_turns numbers.old head.now start)) }
 {
     let condition = expr_nodes(&head.condition);
-    let step = plus(expr_nodes(&head.next), 1);
+    let step = expr_nodes(&head.next);
     let mut total = 0;
     let mut value = start;
     let mut left = MOST_TURNS;
@@ -66,8 +66,7 @@ fn one_turn(
     let condition = expr_nodes(&head.condition);
     let next = next_turn(alloc, head, start, numbers)?;
     if next.is_some() {
-        let step = plus(expr_nodes(&head.next), 1);
-        Ok(plus(condition, step))
+        Ok(plus(condition, expr_nodes(&head.next)))
     } else {
         Ok(condition)
     }

@@ -12,3 +12,4 @@ pub mod Stacks
 pub mod Standing
 pub mod TurnStands
 pub mod StandWhole
+pub mod Shadowed

@@ -1,5 +1,5 @@
 -- Stacks of scopes, as they are taken apart and put together.
-use Rattle.std.specs.Prelude.{◌≡◌, refl, ℕ, List, [], ◌∷◌, drop}
+use Rattle.std.specs.Prelude.{◌≡◌, refl, ℕ, List, [], ◌∷◌, ◌++◌, drop}
 use Rattle.std.proofs.Common.{ap, sym, ◌∙◌}
 use Rattle.vl_mean.specs.Scopes.{Scope}
 use Rattle.vl_elab_spec.specs.Meanings.{Names, meaning_in, value_of}
@@ -23,6 +23,28 @@ module _ (old taken left between new : List Names) (own rest : Names) (first : o
 
   pub stack_is : new ≡ innermost old ∷ innermost (drop 1 new) ∷ drop 2 old
   stack_is = new_is ∙ (λ i. innermost old ∷ sym rest_is i ∷ drop 2 old)
+
+-- over others, which are lifted again, two are made, and put over what was beneath
+module _ (old laid over one taken left rest between new : List Names) (own behind : Names) (count : ℕ)
+    (is_laid : laid ≡ over ++ old) (around : drop 2 one ≡ laid) (first : own ≡ innermost one)
+    (one_taken : taken ≡ drop 1 one) (second : behind ≡ innermost taken) (two_taken : left ≡ drop 1 taken) where
+  pub left_is_laid : left ≡ over ++ old
+  left_is_laid = two_taken ∙ ap (drop 1) one_taken ∙ sym (drop_two one) ∙ around ∙ is_laid
+
+  module _ (lifted : rest ≡ old) (put : between ≡ behind ∷ rest) (last : new ≡ own ∷ between) where
+    pub put_over : new ≡ innermost one ∷ innermost (drop 1 one) ∷ old
+    put_over =
+        last ∙ (λ i. first i ∷ put i)
+        ∙ (λ i. innermost one ∷ (second ∙ ap innermost one_taken) i ∷ lifted i)
+
+    pub put_first : innermost one ≡ innermost new
+    put_first = sym (ap innermost put_over)
+
+    pub put_second : innermost (drop 1 one) ≡ innermost (drop 1 new)
+    put_second = sym (ap (λ ns. innermost (drop 1 ns)) put_over)
+
+    pub put_is : new ≡ innermost new ∷ innermost (drop 1 new) ∷ old
+    put_is = put_over ∙ (λ i. put_first i ∷ put_second i ∷ old)
 
 -- what hides constants stands before them
 pub hidden_is : (old taken between new : List Names) (values hidden named : Names) → values ≡ innermost old

@@ -17,17 +17,19 @@ use Rattle.vl_mean.specs.Declarations.{full_ports, ports_of, header_parameters}
 use Rattle.vl_mean.specs.Scopes.{Scope, constant_in, declared_in, visible, is_clock_decl, unless_constant}
 use Rattle.vl_mean.specs.Scopes.{constant_unless}
 use Rattle.vl_mean.specs.Walk.{Contents, Place, Use, block_place, header_of, written_ports, module_scope, module_around}
-use Rattle.vl_mean.specs.Walk.{module_contents, port_names, top_input}
+use Rattle.vl_mean.specs.Walk.{items_contents, module_contents, port_names, top_input}
 use Rattle.vl_elab_spec.specs.Meanings.{Names, undeclared, faulty, is_undeclared, meaning_of, meaning_in, value_of}
 use Rattle.vl_elab_spec.specs.Meanings.{items_names, port_meanings, items_meanings, scope_meanings, all_meanings}
-use Rattle.vl_elab_spec.specs.Meanings.{meanings_at}
-use Rattle.vl_elab_scope.specs.Seen.{innermost}
+use Rattle.vl_elab_spec.specs.Meanings.{all_later, meanings_at, meanings_before}
+use Rattle.vl_elab_scope.specs.Seen.{innermost, AllNamed}
 use Rattle.vl_elab_scope.specs.Alike.{Alike}
-use Rattle.vl_elab_const.specs.Given.{IsGiven, operand_or}
+use Rattle.vl_elab_const.specs.declared.given.Value.{Value}
+use Rattle.vl_elab_const.specs.Given.{IsGiven, known_or, operand_or}
 use Rattle.vl_elab_const.specs.Numbers.{HaveNumbers}
 use Rattle.vl_elab_params.specs.Among.{contents, constants_of, parameter_meanings, among_parameters}
-use Rattle.vl_elab_params.proofs.Listed.{inner_or}
-use Rattle.vl_elab_params.specs.Own.{AreOwn}
+use Rattle.vl_elab_params.proofs.LaterNames.{all_named}
+use Rattle.vl_elab_params.proofs.Listed.{inner_or, inner_assoc, meaning_append, named_append}
+use Rattle.vl_elab_params.specs.Own.{AreBehind, AreOwn}
 use Rattle.vl_elab_decls.specs.declared.inputs.Inputs.{Inputs}
 use Rattle.vl_elab_decls.specs.declared.inputs.Inputs.TheVariants as i
 use Rattle.vl_elab_decls.specs.Inputs.{AreInputs}
@@ -41,9 +43,10 @@ use Rattle.vl_elab_decls.proofs.Standing.{scope_alike, scope_among, shapes_among
 use Rattle.vl_elab_decls.proofs.Standing.{clock_alone}
 
 -- nothing is given
-pub nothing_given : (given : List ℕ → Option Expr) → ((text : List ℕ) → given text ≡ None) → IsGiven given []
+pub nothing_given : (given : List ℕ → Option Value) → ((text : List ℕ) → given text ≡ None) → IsGiven given []
 nothing_given given h = record {
   value = λ text x. ap (λ o. operand_or o x) (sym (h text));
+  known = λ text b. ap (λ o. known_or o b) (sym (h text));
   there = λ text. ap is_some (sym (h text));
 }
 
@@ -66,7 +69,7 @@ block_inputs = record { top = refl; stands = λ text. refl }
 
 module _ (at : Place) (path : List ℕ) (xs : Items) where
   abbrev pub block_contents : Contents
-  block_contents = record { overrides = []; parameters = []; ports = []; items = xs }
+  block_contents = items_contents at.earlier xs
 
   abbrev pub block_scope : Scope
   block_scope =
@@ -76,12 +79,27 @@ module _ (at : Place) (path : List ℕ) (xs : Items) where
   abbrev shapes : List Scope
   shapes = with_constants block_scope.constants at.scopes
 
+  -- what is reached where the block stands
+  abbrev before : List Names
+  before = meanings_before at at.earlier
+
+  -- what its parameters mean, what names mean in its shapes, and what its nets, variables and genvars do
+  abbrev pub own_meant : Names
+  own_meant = parameter_meanings block_scope before block_contents
+
+  abbrev pub shapes_meant : List Names
+  shapes_meant = among_parameters block_scope before (meanings_at at) block_contents
+
+  abbrev pub objects_meant : Names
+  objects_meant =
+      port_meanings block_scope (meanings_at at) shapes_meant []
+      ++ items_meanings block_scope (meanings_at at) shapes_meant xs
+
   module _ (clocks : List ℕ → Bool) (names numbers : List Names)
       (prior : Stands names numbers clocks (meanings_at at) at.scopes) (own values rest : Names)
-      (h : AreOwn own values (parameter_meanings block_scope (meanings_at at) block_contents) block_scope.constants)
+      (h : AreOwn own values own_meant block_scope.constants)
       (r : AreShaped rest
-      (port_meanings block_scope (meanings_at at) (among_parameters block_scope (meanings_at at) block_contents) []
-      ++ items_meanings block_scope (meanings_at at) (among_parameters block_scope (meanings_at at) block_contents) xs)
+      objects_meant
       block_scope.decls) where
     abbrev hidden : Names
     hidden = with_hidden_items values [] xs
@@ -101,14 +119,14 @@ module _ (at : Place) (path : List ℕ) (xs : Items) where
         (meanings_at (block_place at path xs)) (block_scope ∷ at.scopes)
     block_stands = record {
       alike =
-          scope_alike block_scope (meanings_at at) block_contents own values rest h r names prior.alike;
+          scope_alike block_scope before (meanings_at at) block_contents own values rest h r names prior.alike;
       numbers = λ text.
           ap (λ m. value_of (inner_or m (inner_or (meaning_of values text) (meaning_in numbers text))))
           (hidden_meaning text)
           ∙ number_by (meaning_of values text) (meaning_in numbers text) (constant_of block_scope.constants text)
           (constant_in at.scopes text) (hides text) (h.value text) (h.only text) (prior.numbers text);
       among =
-          scope_among block_scope (meanings_at at) block_contents own values rest h r at.scopes prior.among;
+          scope_among block_scope before (meanings_at at) block_contents own values rest h r at.scopes prior.among;
       clock = λ text.
           clock_by (meaning_of values text) (meaning_in numbers text) (constant_of block_scope.constants text)
           (constant_in at.scopes text) (hides text) (clocks text)
@@ -124,11 +142,11 @@ module _ (at : Place) (path : List ℕ) (xs : Items) where
   -- what its declarations are read over
   pub block_declared : ArePlain (items_names xs) → (clocks : List ℕ → Bool) (names numbers : List Names)
       → Stands names numbers clocks (meanings_at at) at.scopes → (own values : Names)
-      → AreOwn own values (parameter_meanings block_scope (meanings_at at) block_contents) block_scope.constants
-      → IsDeclared block_scope (among_parameters block_scope (meanings_at at) block_contents) shapes block_use [] xs
+      → AreOwn own values own_meant block_scope.constants
+      → IsDeclared block_scope shapes_meant shapes block_use [] xs
   block_declared p clocks names numbers prior own values h = record {
     decls = refl;
-    among = shapes_among block_scope (meanings_at at) block_contents own values h at.scopes prior.among;
+    among = shapes_among block_scope before (meanings_at at) block_contents own values h at.scopes prior.among;
     plain = p;
   }
 
@@ -148,19 +166,19 @@ module _ (s : Scope) (u : Use) (ps : List HeaderParameter) (qs : List Port) (xs 
     module _ (own values rest : Names) (clocks : List ℕ → Bool)
         (h : AreOwn own values (parameter_meanings s [] made) s.constants)
         (r : AreShaped rest
-        (port_meanings s [] (among_parameters s [] made) (full_ports None qs)
-        ++ items_meanings s [] (among_parameters s [] made) (items xs)) s.decls)
+        (port_meanings s [] (among_parameters s [] [] made) (full_ports None qs)
+        ++ items_meanings s [] (among_parameters s [] [] made) (items xs)) s.decls)
         (known : (text : List ℕ) → clocks text ≡ is_clock_decl (declared_as own_ports text)) where
       nothing : Alike [] []
       nothing = record { named = tt; also_named = tt; meaning = λ text. refl }
 
-      pub module_stands : Stands (own ∷ rest ∷ []) ([] ∷ values ∷ []) clocks (scope_meanings s [] made ∷ []) (s ∷ [])
+      pub module_stands : Stands (own ∷ rest ∷ []) ([] ∷ values ∷ []) clocks (scope_meanings s [] [] made ∷ []) (s ∷ [])
       module_stands = record {
-        alike = scope_alike s [] made own values rest h r [] nothing;
+        alike = scope_alike s [] [] made own values rest h r [] nothing;
         numbers = λ text.
             number_alone (meaning_of values text) (constant_of s.constants text) (is_declared s.decls text)
             (h.value text);
-        among = scope_among s [] made own values rest h r [] (λ text c e. e);
+        among = scope_among s [] [] made own values rest h r [] (λ text c e. e);
         clock = λ text.
             clock_alone (meaning_of values text) (constant_of s.constants text) (is_declared s.decls text)
             (clocks text) (declared_as (s.decls ++ []) text) (h.value text) (h.only text)
@@ -170,12 +188,32 @@ module _ (s : Scope) (u : Use) (ps : List HeaderParameter) (qs : List Port) (xs 
 
     pub module_declared : ArePlain (port_names (full_ports None qs) ++ items_names (items xs)) → (own values : Names)
         → AreOwn own values (parameter_meanings s [] made) s.constants
-        → IsDeclared s (among_parameters s [] made) over u (full_ports None qs) (items xs)
+        → IsDeclared s (among_parameters s [] [] made) over u (full_ports None qs) (items xs)
     module_declared p own values h = record {
       decls = decls;
-      among = shapes_among s [] made own values h [] (λ text c e. e);
+      among = shapes_among s [] [] made own values h [] (λ text c e. e);
       plain = p;
     }
+
+-- ---- of a block the parameters, and behind them its other names
+
+module _ (s : Scope) (before outer : List Names) (c : Contents) (one names : List Names) (values : Names)
+    (stack : one ≡ innermost one ∷ innermost (drop 1 one) ∷ names)
+    (h : AreOwn (innermost one) values (parameter_meanings s before c) s.constants)
+    (b : AreBehind (innermost (drop 1 one)) (all_later c)) (prior : Alike names outer) where
+  pub parameters_alike : Alike one (among_parameters s before outer c)
+  parameters_alike = record {
+    named = subst AllNamed (sym stack) (h.own_named, (b.named, prior.named));
+    also_named =
+        (named_append (parameter_meanings s before c) (all_later c) h.also_named (all_named c), prior.also_named);
+    meaning = λ text.
+        ap (λ ns. meaning_in ns text) stack
+        ∙ (λ i. inner_or (h.meaning text i) (inner_or (b.meaning text i) (prior.meaning text i)))
+        ∙ inner_assoc (meaning_of (parameter_meanings s before c) text) (meaning_of (all_later c) text)
+        (meaning_in outer text)
+        ∙ ap (λ m. inner_or m (meaning_in outer text))
+        (sym (meaning_append (parameter_meanings s before c) (all_later c) h.also_named text));
+  }
 
 -- ---- from one stack to the next
 
@@ -188,11 +226,10 @@ module _ (at : Place) (path : List ℕ) (xs : Items) (clocks : List ℕ → Bool
   abbrev c : Contents
   c = block_contents at path xs
 
-  module _ (own : AreOwn (innermost one) (innermost first) (parameter_meanings s (meanings_at at) c) s.constants)
+  module _ (own : AreOwn (innermost one) (innermost first) (own_meant at path xs) s.constants)
       (stack : two ≡ innermost one ∷ innermost (drop 1 two) ∷ drop 2 one)
       (shaped : AreShaped (innermost (drop 1 two))
-      (port_meanings s (meanings_at at) (among_parameters s (meanings_at at) c) []
-      ++ items_meanings s (meanings_at at) (among_parameters s (meanings_at at) c) xs) s.decls)
+      (objects_meant at path xs) s.decls)
       (hidden : next ≡ with_hidden_items (innermost first) [] xs ∷ innermost first ∷ drop 1 first) where
     pub block_entered : Stands two next clocks (meanings_at (block_place at path xs)) (s ∷ at.scopes)
     block_entered =
@@ -221,18 +258,18 @@ module _ (s : Scope) (u : Use) (ps : List HeaderParameter) (qs : List Port) (xs 
     (own : AreOwn (innermost one) (innermost first) (parameter_meanings s [] (made s u ps qs xs)) s.constants)
     (stack : two ≡ innermost one ∷ innermost (drop 1 two) ∷ drop 2 one)
     (shaped : AreShaped (innermost (drop 1 two))
-    (port_meanings s [] (among_parameters s [] (made s u ps qs xs)) (full_ports None qs)
-    ++ items_meanings s [] (among_parameters s [] (made s u ps qs xs)) (items xs)) s.decls)
+    (port_meanings s [] (among_parameters s [] [] (made s u ps qs xs)) (full_ports None qs)
+    ++ items_meanings s [] (among_parameters s [] [] (made s u ps qs xs)) (items xs)) s.decls)
     (known : (text : List ℕ) → clocks text ≡ is_clock_decl (declared_as (own_ports s u ps qs xs) text)) where
   same_meaning : (text : List ℕ) → meaning_in ([] ∷ first) text ≡ meaning_in ([] ∷ innermost first ∷ []) text
   same_meaning text =
       ap (inner_or undeclared)
       (sym (again first text) ∙ ap (λ ns. meaning_in (innermost first ∷ ns) text) beneath)
 
-  pub module_entered : Stands two ([] ∷ first) clocks (scope_meanings s [] (made s u ps qs xs) ∷ []) (s ∷ [])
+  pub module_entered : Stands two ([] ∷ first) clocks (scope_meanings s [] [] (made s u ps qs xs) ∷ []) (s ∷ [])
   module_entered =
       renumber two ([] ∷ innermost first ∷ []) ([] ∷ first) clocks _ _
-      (subst (λ ns. Stands ns ([] ∷ innermost first ∷ []) clocks (scope_meanings s [] (made s u ps qs xs) ∷ [])
+      (subst (λ ns. Stands ns ([] ∷ innermost first ∷ []) clocks (scope_meanings s [] [] (made s u ps qs xs) ∷ [])
       (s ∷ [])) (sym (stack ∙ (λ i. innermost one ∷ innermost (drop 1 two) ∷ around i)))
       (module_stands s u ps qs xs decls (innermost one) (innermost first) (innermost (drop 1 two)) clocks own shaped
       known)) same_meaning
@@ -253,6 +290,7 @@ module _ (m : Module) (u : Use) (path : List ℕ) (ps : List HeaderParameter) (q
     parameters = header_parameters (e i);
     ports = also_ports i;
     items = items (g i);
+    earlier = [];
   }
 
   pub module_constants_are : (module_scope m u path).constants

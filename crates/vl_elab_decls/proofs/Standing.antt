@@ -76,15 +76,15 @@ known_by faulty b d c all h f g e = cc
 known_by shapeless b d c all h f g e = cc
 known_by later b d c all h f g e = cc
 
-module _ (s : Scope) (outer : List Names) (c : Contents) where
+module _ (s : Scope) (before outer : List Names) (c : Contents) where
   abbrev around : List Names
-  around = among_parameters s outer c
+  around = among_parameters s before outer c
 
   abbrev objects_meant : Names
   objects_meant = port_meanings s outer around c.ports ++ items_meanings s outer around c.items
 
   abbrev own_meant : Names
-  own_meant = parameter_meanings s outer c
+  own_meant = parameter_meanings s before c
 
   abbrev both_meant : Names
   both_meant = own_meant ++ port_meanings s outer around c.ports ++ items_meanings s outer around c.items
@@ -110,7 +110,7 @@ module _ (s : Scope) (outer : List Names) (c : Contents) where
     no_constant text k = is_none_of (constant_of s.constants text) (sym (h.there text) ∙ k)
 
     pub scope_meaning : (text : List ℕ)
-        → meaning_of (scope_meanings s outer c) text
+        → meaning_of (scope_meanings s before outer c) text
         ≡ inner_or (meaning_of own_meant text) (meaning_of objects_meant text)
     scope_meaning text =
         meaning_append both_meant scope_constants both_named text
@@ -119,7 +119,7 @@ module _ (s : Scope) (outer : List Names) (c : Contents) where
         (λ k. constants_undeclared s.constants text (no_constant text k))
 
     module _ (names : List Names) (prior : Alike names outer) where
-      pub scope_alike : Alike (own ∷ rest ∷ names) (scope_meanings s outer c ∷ outer)
+      pub scope_alike : Alike (own ∷ rest ∷ names) (scope_meanings s before outer c ∷ outer)
       scope_alike = record {
         named = (h.own_named, (r.named, prior.named));
         also_named =
@@ -131,12 +131,12 @@ module _ (s : Scope) (outer : List Names) (c : Contents) where
       }
 
     module _ (ss : List Scope) (among : AreAmong (constants outer) (constant_in ss)) where
-      pub scope_among : AreAmong (constants (scope_meanings s outer c ∷ outer)) (constant_in (s ∷ ss))
+      pub scope_among : AreAmong (constants (scope_meanings s before outer c ∷ outer)) (constant_in (s ∷ ss))
       scope_among text k e =
           known_by (meaning_of own_meant text) (meaning_of objects_meant text) (meaning_in outer text) k
           (constant_in (s ∷ ss) text) (objects_no_value s outer around c.ports c.items text)
           (λ f. ap (λ o. constant_unless o (is_declared s.decls text) (constant_in ss text))
-          (right_of s own_meant (own_right s outer (all_later c) c.overrides c.parameters c.items) text k f))
+          (right_of s own_meant (own_right s before (all_later c) c.overrides c.parameters c.items) text k f))
           (λ a b f.
           (λ i. constant_unless (no_constant text a i)
           (not_declared s.decls text (r.rest text b) i) (constant_in ss text)) ∙ among text k f)
@@ -160,7 +160,7 @@ module _ (s : Scope) (outer : List Names) (c : Contents) where
         known_by (meaning_of own_meant text) (meaning_of (all_later c) text) (meaning_in outer text) k
         (constant_in (with_constants s.constants ss) text) (later_value (parameter_names c.parameters ++ port_names c.ports ++ items_names c.items) text)
         (λ f. ap (λ o. constant_unless o false (constant_in ss text))
-        (right_of s own_meant (own_right s outer (all_later c) c.overrides c.parameters c.items) text k f))
+        (right_of s own_meant (own_right s before (all_later c) c.overrides c.parameters c.items) text k f))
         (λ a b f.
         ap (λ o. constant_unless o false (constant_in ss text))
         (is_none_of (constant_of s.constants text) (sym (h.there text) ∙ a)) ∙ among text k f)

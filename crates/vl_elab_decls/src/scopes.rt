@@ -6,13 +6,16 @@ ghost use Rattle.vl_mean.specs.Scopes.{Scope};
 ghost use Rattle.vl_mean.specs.Walk as walk;
 ghost use Rattle.vl_mean.specs.Walk.{Place, Use, block_place, port_names};
 ghost use Rattle.vl_elab_spec.specs.Meanings as meanings;
+ghost use Rattle.vl_elab_spec.specs.Meanings.{Names as Scoped};
 ghost use Rattle.vl_elab_spec.specs.Meanings.{items_names, meanings_at, items_meanings, port_meanings};
 ghost use Rattle.vl_elab_scope.specs.Seen.{innermost};
 ghost use Rattle.vl_elab_scope.specs.Alike.{Alike};
 ghost use Rattle.vl_elab_const.specs.Given.{value_given, IsGiven};
 ghost use Rattle.vl_elab_const.specs.Numbers.{HaveNumbers};
 ghost use Rattle.vl_elab_names.specs.Known.{contains};
-ghost use Rattle.vl_elab_params.specs.Among.{contents, constants_of};
+ghost use Rattle.vl_elab_params.specs.Among.{contents, constants_of, parameter_meanings};
+ghost use Rattle.vl_elab_params.specs.Own.{AreBehind, AreOwn};
+ghost use Rattle.vl_elab_params.specs.Reached.{AreAround, AreBefore};
 ghost use Rattle.vl_elab_decls.specs.Inputs.{AreInputs};
 ghost use Rattle.vl_elab_decls.specs.Shaped.{ArePlain, AreShaped, IsDeclared};
 ghost use Rattle.vl_elab_decls.specs.Stands.{Stands};
@@ -25,7 +28,7 @@ use fv_text::{List, Memory};
 use std::alloc::Global;
 use vl_elab_const::Given;
 use vl_elab_names::NameSet;
-use vl_elab_params::enter_parameters;
+use vl_elab_params::{enter_parameters, shadows};
 use vl_elab_scope::{Level, Names};
 use vl_tree::{HeaderParameter, Item, Module, Port};
 
@@ -52,28 +55,71 @@ fn enter_objects(
     names.enter(own)
 }
 
-/// Enters the scope of a block with these items. `names`: what names mean, `numbers`: the numbers of constants.
-pub fn enter_block(
+/// Enters a block with these items as far as its parameters, which use what is said of those of the scopes around.
+fn enter_own(
     alloc: Global,
     all: &[Item],
+    around: &mut Names,
     names: &mut Names,
     numbers: &mut Names,
 ) -> Result<(), Memory>
+    ensures around { OnOk result (around.new ≡ around.old) }
+    ensures names { OnOk result (names.new
+        ≡ innermost names.new ∷ innermost (drop 1 names.new) ∷ names.old) }
+    ensures numbers { OnOk result (drop 1 numbers.new ≡ numbers.old) }
+    ensures behind { OnOk result (AreBehind (innermost (drop 1 names.new))
+        (meanings.all_later (contents [] [] [] all.now))) }
+    ensures constants { OnOk result ((s : Scope) (before : List Scoped) (ss : List Scope)
+        → Alike (around.old ++ names.old) before → HaveNumbers numbers.old ss
+        → s.constants ≡ constants_of ss (contents [] [] [] all.now)
+        → HaveNumbers numbers.new (with_constants s.constants ss)) }
+    ensures own { OnOk result ((s : Scope) (before : List Scoped) (ss : List Scope)
+        → Alike (around.old ++ names.old) before → HaveNumbers numbers.old ss
+        → s.constants ≡ constants_of ss (contents [] [] [] all.now)
+        → AreOwn (innermost names.new) (innermost numbers.new)
+        (parameter_meanings s before (contents [] [] [] all.now)) s.constants) }
+{
+    let nothing = Given::new(alloc);
+    let count = names.lay(around)?;
+    enter_parameters(alloc, &[], &[], all, &nothing, names, numbers)?;
+    let own = names.take(alloc);
+    let behind = names.take(alloc);
+    *around = names.lift(count)?;
+    names.enter(behind)?;
+    names.enter(own)
+}
+
+/// Enters the scope of a block with these items. `around`: what is said of the parameters of the scopes around, with
+/// what their names mean in the block behind it; `names`: what names mean, `numbers`: the numbers of constants.
+pub fn enter_block(
+    alloc: Global,
+    all: &[Item],
+    around: &mut Names,
+    names: &mut Names,
+    numbers: &mut Names,
+) -> Result<(), Memory>
+    ensures around { OnOk result (drop 1 around.new ≡ around.old) }
     ensures names { OnOk result (drop 2 names.new ≡ names.old) }
     ensures numbers { OnOk result (drop 2 numbers.new ≡ numbers.old) }
     ensures inside { OnOk result (numbers.new ≡ innermost numbers.new ∷ drop 1 numbers.new) }
     ensures stands { OnOk result ((at : Place) (path : List ℕ) (clocks : List ℕ → Bool)
+        → AreBefore around.old at at.earlier
         → Stands names.old numbers.old clocks (meanings_at at) at.scopes → ArePlain (items_names (items all.now))
         → Stands names.new numbers.new clocks (meanings_at (block_place at path (items all.now)))
         (block_place at path (items all.now)).scopes) }
-    ensures around { OnOk result ((at : Place) (path : List ℕ) (clocks : List ℕ → Bool)
-        → Stands names.old numbers.old clocks (meanings_at at) at.scopes
+    ensures shapes { OnOk result ((at : Place) (path : List ℕ) (clocks : List ℕ → Bool)
+        → AreBefore around.old at at.earlier → Stands names.old numbers.old clocks (meanings_at at) at.scopes
         → HaveNumbers (drop 1 numbers.new) (block_place at path (items all.now)).around) }
+    ensures parameters { OnOk result ((at : Place) (path : List ℕ) (clocks : List ℕ → Bool)
+        → AreBefore around.old at at.earlier
+        → Stands names.old numbers.old clocks (meanings_at at) at.scopes → ArePlain (items_names (items all.now))
+        → AreAround around.new (block_place at path (items all.now))) }
 {
-    let nothing = Given::new(alloc);
-    enter_parameters(alloc, &[], &[], all, &nothing, names, numbers)?;
+    enter_own(alloc, all, around, names, numbers)?;
     enter_objects(alloc, &Inputs::Top, &[], all, names)?;
-    hide(alloc, all, numbers)
+    hide(alloc, all, numbers)?;
+    let own = shadows(alloc, all, names, around)?;
+    around.enter(own)
 }
 
 /// Leaves the innermost scope.
@@ -114,6 +160,8 @@ pub struct Inside {
     pub numbers: Names,
     /// The inputs that are the clock.
     pub clocks: NameSet,
+    /// What is said of the parameters of the scopes around, as far as the walk has come in them.
+    pub around: Names,
 }
 
 /// Enters a scope by its parts.
@@ -132,12 +180,13 @@ fn enter_parts(
         → s.decls ≡ declared_ports (with_constants s.constants []) u.is_top u.input (full_ports None ports.now)
         ++ declared (with_constants s.constants []) (items all.now)
         → Stands inside.names inside.numbers (contains inside.clocks)
-        (meanings.scope_meanings s [] (contents u.overrides parameters.now ports.now all.now) ∷ []) (s ∷ [])) }
+        (meanings.scope_meanings s [] [] (contents u.overrides parameters.now ports.now all.now) ∷ []) (s ∷ [])) }
     ensures around { IfOk result (λ inside. (s : Scope) (u : Use)
         → IsGiven (value_given given.now) u.overrides
         → s.constants ≡ constants_of [] (contents u.overrides parameters.now ports.now all.now)
         → HaveNumbers (drop 1 inside.numbers) (with_constants s.constants [])) }
     ensures inside { IfOk result (λ inside. inside.numbers ≡ innermost inside.numbers ∷ drop 1 inside.numbers) }
+    ensures parameters { IfOk result (λ inside. inside.around ≡ []) }
 {
     let mut names = Names::new(alloc);
     let mut numbers = Names::new(alloc);
@@ -157,6 +206,7 @@ fn enter_parts(
         names,
         numbers,
         clocks,
+        around: Names::new(alloc),
     })
 }
 
@@ -177,6 +227,7 @@ pub fn enter_module(
         → IsGiven (value_given given.now) u.overrides
         → HaveNumbers (drop 1 inside.numbers) (walk.module_around module.now u)) }
     ensures inside { IfOk result (λ inside. inside.numbers ≡ innermost inside.numbers ∷ drop 1 inside.numbers) }
+    ensures parameters { IfOk result (λ inside. inside.around ≡ []) }
 {
     let parameters = header_of(&module.parameters);
     let ports = ports_of(&module.ports);

@@ -20,7 +20,8 @@ use Rattle.vl_mean.specs.Walk.{parameter_names}
 use Rattle.vl_elab_spec.specs.Meanings.{Names, constant, is_undeclared, meaning_of}
 use Rattle.vl_elab_scope.specs.Seen.{innermost, with_name}
 use Rattle.vl_elab_draft.specs.Kept.{with_constant}
-use Rattle.vl_elab_const.specs.Given.{IsGiven, operand_or}
+use Rattle.vl_elab_const.specs.declared.given.Value.{Value}
+use Rattle.vl_elab_const.specs.Given.{IsGiven, known_or, operand_or}
 use Rattle.vl_elab_const.specs.Numbers.{HaveNumbers}
 use Rattle.vl_elab_const.specs.Openable.{Different, constant_names, item_constants, items_constants}
 use Rattle.vl_elab_flatten.specs.Levels.{Adds, HasConstants, constants_level, with_declared}
@@ -68,7 +69,7 @@ none_known (Some c) known h e = absurd (true≢false h)
 
 -- ---- a parameter
 
-pub parameter_added : (given : List ℕ → Option Expr) (x : Parameter) (value : Const) (s t : Scope) (ns ms : List Names)
+pub parameter_added : (given : List ℕ → Option Value) (x : Parameter) (value : Const) (s t : Scope) (ns ms : List Names)
     → ((os : Overrides) (ss : List Scope) → IsGiven given os → HaveNumbers ns ss → value ≡ parameter_value os ss x)
     → ((path : List ℕ) (cs : Constants) (outer : List Names) → Fresh cs x.name → HasConstants path cs outer s ns
     → HasConstants path (cs ++ (x.name, value) ∷ []) outer t ms)
@@ -80,13 +81,14 @@ parameter_added given x value s t ns ms valued added os ss path cs outer g h d h
     (added path cs outer (fresh (constant_names cs) [] x.name d) has)
 
 -- what isn't given anything
-pub given_nothing : (given : List ℕ → Option Expr) → ((name : List ℕ) → given name ≡ None) → IsGiven given []
+pub given_nothing : (given : List ℕ → Option Value) → ((name : List ℕ) → given name ≡ None) → IsGiven given []
 given_nothing given h = record {
   value = λ text x. sym (ap (λ o. operand_or o x) (h text));
+  known = λ text b. sym (ap (λ o. known_or o b) (h text));
   there = λ text. sym (ap is_some (h text));
 }
 
-pub local_added : (given nothing : List ℕ → Option Expr) → ((name : List ℕ) → nothing name ≡ None)
+pub local_added : (given nothing : List ℕ → Option Value) → ((name : List ℕ) → nothing name ≡ None)
     → (xs : List Parameter) (s t : Scope) (ns ms : List Names)
     → Adds nothing (λ os ss cs. with_parameters os ss cs xs) (parameter_names xs) s ns t ms
     → Adds given (λ os ss cs. with_parameters [] ss cs xs) (parameter_names xs) s ns t ms
@@ -95,7 +97,7 @@ local_added given nothing none xs s t ns ms a os ss path cs outer g h d has =
 
 -- ---- one behind the other
 
-module _ (given : List ℕ → Option Expr) (os : Overrides) (ss : List Scope) (path : List ℕ) (outer : List Names)
+module _ (given : List ℕ → Option Value) (os : Overrides) (ss : List Scope) (path : List ℕ) (outer : List Names)
     (g : IsGiven given os) (h : HaveNumbers outer ss) where
   pub record ParametersGo (whole : Constants) (s : Scope) (ns : List Names) (left : List Parameter) : Type 0 where
     pub so_far : Constants
@@ -185,7 +187,7 @@ same_kind : (kind : ParameterKind) (a : Attributes) (p : Pos) (os : Overrides) (
 same_kind k.Parameter a p os ss cs xs = refl
 same_kind k.Localparam a p os ss cs xs = refl
 
-pub item_added : (given : List ℕ → Option Expr) (a : Attributes) (p : Pos) (kind : ParameterKind)
+pub item_added : (given : List ℕ → Option Value) (a : Attributes) (p : Pos) (kind : ParameterKind)
     (xs ys : List Parameter) (x : Item) (s t : Scope) (ns ms : List Names) → parameter a p kind xs ≡ x → ys ≡ xs
     → Adds given (λ os ss cs. with_declared kind os ss cs ys) (parameter_names ys) s ns t ms
     → Adds given (λ os ss cs. with_item_parameters os ss cs x) (item_constants x) s ns t ms

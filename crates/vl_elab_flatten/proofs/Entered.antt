@@ -19,6 +19,7 @@ use Rattle.vl_mean.specs.Walk.{Use, header_of, module_scope, parameter_names, po
 use Rattle.vl_elab_spec.specs.Meanings.{Names}
 use Rattle.vl_elab_scope.specs.Seen.{innermost}
 use Rattle.vl_elab_draft.specs.Kept.{empty_scope}
+use Rattle.vl_elab_const.specs.declared.given.Value.{Value}
 use Rattle.vl_elab_const.specs.Given.{IsGiven}
 use Rattle.vl_elab_const.specs.Numbers.{HaveNumbers}
 use Rattle.vl_mean_flat.proofs.EachOf.{back, front}
@@ -50,7 +51,7 @@ use Rattle.vl_elab_flatten.proofs.Filled.{different_decls_front}
 use Rattle.vl_elab_flatten.proofs.Numbered.{hidden_append, hidden_numbers, level_numbers}
 
 -- the parameters of the head, and then those of the items
-pub both_added : (given : List ℕ → Option Expr) (hs : List HeaderParameter) (xs : Items) (s t u : Scope)
+pub both_added : (given : List ℕ → Option Value) (hs : List HeaderParameter) (xs : Items) (s t u : Scope)
     (ns ms ks : List Names)
     → Adds given (λ os ss cs. with_parameters os ss cs (header_parameters hs)) (parameter_names (header_parameters hs))
     s ns t ms
@@ -71,7 +72,7 @@ names_mapped : (ss : List Scope) (is_top : Bool) (input : List ℕ → Class) (p
 names_mapped ss is_top input [] = refl
 names_mapped ss is_top input (p ∷ ps) = ap (λ ns. p.name ∷ ns) (names_mapped ss is_top input ps)
 
-module _ (hs : List HeaderParameter) (ps : List Port) (xs : Items) (inputs : Inputs) (given : List ℕ → Option Expr)
+module _ (hs : List HeaderParameter) (ps : List Port) (xs : Items) (inputs : Inputs) (given : List ℕ → Option Value)
     (path : List ℕ) (can : CanOpen hs ps xs inputs given path) where
   abbrev used : Use
   used = can.used
@@ -246,7 +247,7 @@ module _ (m : Module) (hs : List HeaderParameter) (ps : List Port) (all : Items)
   module_scope_is : (u : Use) → scope_with hs ps all u path ≡ module_scope m u path
   module_scope_is u = λ i. scope_by (hs_are i) (full_are i) (all_are i) u
 
-  pub can_open : (inputs : Inputs) (given : List ℕ → Option Expr) → IsModuleOpenable m inputs given path
+  pub can_open : (inputs : Inputs) (given : List ℕ → Option Value) → IsModuleOpenable m inputs given path
       → CanOpen hs ps all inputs given path
   can_open inputs given can = record {
     used = can.used;

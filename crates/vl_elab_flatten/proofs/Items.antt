@@ -42,6 +42,7 @@ use Rattle.vl_mean.specs.Declarations.{block_name, constructs, declared, declare
 use Rattle.vl_mean.specs.Parts.{item_parts}
 use Rattle.vl_mean.specs.Runs.{Each}
 use Rattle.vl_mean.specs.Scopes.{Scope, constant_in}
+use Rattle.vl_mean.specs.Walk.{block_step}
 use Rattle.vl_mean.specs.Walk.{Place, Step, all_valued, item, item_steps, items_steps, turns}
 use Rattle.vl_mean.specs.Walk.{turn_path, turn_place, unfolded, with_earlier}
 use Rattle.vl_elab_spec.specs.Meanings.{Names}
@@ -246,23 +247,26 @@ module _ (ms : List Module) (depth : ℕ) where
   -- ---- blocks
 
   pub block_nested : (b : Block) (x : Item) (at : Place) (n : ℕ) → nested_if b ≡ Some x
-      → block_seen ms depth b at n ≡ item_seen ms depth x at n
+      → block_seen ms depth b at n ≡ seen_step (block_step at b) ∷ item_seen ms depth x at n
   block_nested b x at n e = ap seen_steps (sym (nested_item all_valued ms (unfolded depth ms) b x at n e))
 
   pub block_scoped : (b : Block) (xs : Items) (at : Place) (n : ℕ) (path : List ℕ) → nested_if b ≡ None
       → xs ≡ block_items b → path ≡ at.path ++ block_name at.names n (label_of b) ++ codes "."
-      → block_seen ms depth b at n ≡ scope_seen ms depth xs at path
+      → block_seen ms depth b at n ≡ seen_step (block_step at b) ∷ scope_seen ms depth xs at path
   block_scoped b xs at n path e same path_is =
       ap seen_steps (sym (scope_items all_valued ms (unfolded depth ms) b at n e))
-      ∙ (λ i. scope_seen ms depth (sym same i) at (sym path_is i))
+      ∙ (λ i. seen_step (block_step at b) ∷ scope_seen ms depth (sym same i) at (sym path_is i))
 
   pub turn_scoped : (head : LoopHead) (b : Block) (xs : Items) (at : Place) (label : List ℕ) (c : Const)
       (path : List ℕ) → xs ≡ block_items b → path ≡ turn_path at.path label c
-      → turn_seen ms depth head b at label c ≡ scope_seen ms depth xs (turn_place at head.variable c) path
+      → turn_seen ms depth head b at label c
+      ≡ seen_step (block_step (turn_place at head.variable c) b)
+      ∷ scope_seen ms depth xs (turn_place at head.variable c) path
   turn_scoped head b xs at label c path same path_is =
       ap seen_steps (sym (turn_items all_valued ms (unfolded depth ms) b (turn_place at head.variable c)
       (turn_path at.path label c)))
-      ∙ (λ i. scope_seen ms depth (sym same i) (turn_place at head.variable c) (sym path_is i))
+      ∙ (λ i. seen_step (block_step (turn_place at head.variable c) b)
+      ∷ scope_seen ms depth (sym same i) (turn_place at head.variable c) (sym path_is i))
 
 -- ---- turns of a loop, one behind the other
 

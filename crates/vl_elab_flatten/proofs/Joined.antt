@@ -14,6 +14,7 @@ use Rattle.vl_size.specs.declared.decl.Class.TheVariants as class
 use Rattle.vl_mean.specs.Declarations.{full_ports, port_named, ports_of}
 use Rattle.vl_mean.specs.Parts.{connection_part, port_part}
 use Rattle.vl_mean.specs.Scopes.{Scope, is_clock}
+use Rattle.vl_mean.specs.Walk.{has_any}
 use Rattle.vl_mean.specs.Walk.{connected, use_of, written_ports}
 use Rattle.vl_elab_names.specs.declared.set.NameSet.{NameSet}
 use Rattle.vl_elab_names.specs.Known.{contains}
@@ -27,7 +28,7 @@ use Rattle.vl_elab_emit.specs.OwnParts.{joined_part}
 
 pub joined_are : (ss : List Scope) (x : Instance) (all : List Connection) (set : NameSet)
     → ((text : List ℕ) → contains set text ≡ joined_to (is_clock ss) all (λ t. false) (λ t. false) text)
-    → x.connections ≡ all → AreInputs (i.Joined set) (use_of ss x)
+    → x.connections ≡ all → AreInputs (i.Joined set) (use_of has_any ss x)
 joined_are ss x all set made e = record {
   top = refl;
   stands = λ text.

@@ -13,6 +13,7 @@ use Rattle.vl_mean.specs.Scopes.{Scope}
 use Rattle.vl_elab_spec.specs.Meanings.{Names, constant}
 use Rattle.vl_elab_scope.specs.Seen.{innermost, with_name}
 use Rattle.vl_elab_draft.specs.Kept.{empty_scope}
+use Rattle.vl_elab_const.specs.declared.given.Value.{Value}
 use Rattle.vl_elab_const.specs.Numbers.{HaveNumbers}
 use Rattle.vl_elab_const.specs.Openable.{Different, IsInRange, IsOpenable, constant_names, items_constants}
 use Rattle.vl_elab_flatten.specs.Here.{block_constants, block_scope}
@@ -27,7 +28,7 @@ module _ (ss : List Scope) (ns : List Names) (h : HaveNumbers ns ss) (path : Lis
   cs = block_constants ss xs
 
   -- its constants stand in it
-  pub block_constants_are : (nothing : List ℕ → Option Expr) → ((name : List ℕ) → nothing name ≡ None)
+  pub block_constants_are : (nothing : List ℕ → Option Value) → ((name : List ℕ) → nothing name ≡ None)
       → (text : List ℕ) (s t : Scope) (l : List Names) (ms : List Names) → text ≡ path → s ≡ empty_scope text
       → l ≡ [] ∷ ns
       → Adds nothing (λ os ss cs. with_items_parameters os ss cs xs) (items_constants xs) s l t ms

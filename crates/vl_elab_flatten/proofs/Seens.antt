@@ -2,9 +2,10 @@
 use Rattle.std.specs.Prelude.{◌≡◌, refl, List, [], ◌∷◌, ◌++◌, Result, Ok, Err, OnOk, IsErrAnd}
 use Rattle.std.proofs.Common.{ap, sym, ◌∙◌, subst, append_assoc}
 use Rattle.std.proofs.lemmas.List.{map-append}
+use Rattle.vl_tree.specs.Item.{Block}
 use Rattle.vl_mean.specs.Parts.{parts_of_steps}
 use Rattle.vl_mean.specs.Runs.{Each}
-use Rattle.vl_mean.specs.Walk.{Step, connection, header, item, override, port}
+use Rattle.vl_mean.specs.Walk.{Place, Step, block_step, connection, header, item, override, port}
 use Rattle.vl_mean_flat.specs.StepScopes.{StepScopes}
 use Rattle.vl_mean_flat.proofs.EachOf.{back, front}
 use Rattle.vl_mean_flat.specs.Seen.{Seen, parts_of_seen, places_of_seen, seen_step, seen_steps}
@@ -58,6 +59,11 @@ module _ (w : Written) (all xs ys : List Seen) (e : all ≡ xs ++ ys) where
       subst (λ ps. StandBehind w ps u) (sym (ap placed_seen e ∙ placed_append xs ys))
       (both_behind w v u (placed_seen xs) (placed_seen ys) h k)
 
+-- behind a block's own step, which has no parts
+pub behind_block : (w : Written) (at : Place) (b : Block) (xs : List Seen)
+    → IsReady w (seen_step (block_step at b) ∷ xs) → IsReady w xs
+behind_block w at b xs h = record { openable = h.openable.1; may = h.may }
+
 pub writes_nothing : (w : Written) (xs : List Seen) → xs ≡ [] → Writes w xs w
 writes_nothing w xs e = subst (λ ys. Writes w ys w) (sym e) (nothing_more w)
 
@@ -89,6 +95,7 @@ each_opened (header at x ∷ xs) h = ((h.0, tt), each_opened xs h.1)
 each_opened (port at u p q ∷ xs) h = ((h.0, tt), each_opened xs h.1)
 each_opened (item at x ∷ xs) h = ((h.0, tt), each_opened xs h.1)
 each_opened (override at m u given x ∷ xs) h = ((h.0, tt), each_opened xs h.1)
+each_opened (block_step at b ∷ xs) h = ((h.0, tt), each_opened xs h.1)
 each_opened (connection at m u inside given x ∷ xs) h = ((h.0.0, (h.0.1, tt)), each_opened xs h.1)
 
 pub steps_ready : (w : Written) (xs : List Step) → Each (StepScopes AreOpenable) xs

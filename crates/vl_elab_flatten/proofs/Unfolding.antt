@@ -8,6 +8,7 @@ use Rattle.vl_tree.specs.Item.{Item, items}
 use Rattle.vl_size.specs.declared.decl.Decl.{Decl}
 use Rattle.vl_mean.specs.Declarations.{declared, declared_ports, full_ports, ports_of}
 use Rattle.vl_mean.specs.Runs.{Each}
+use Rattle.vl_mean.specs.Walk.{has_any}
 use Rattle.vl_mean.specs.Walk.{
   Place,
   Step,
@@ -120,7 +121,7 @@ module _ (ms : List Module) (depth : ℕ) (m : Module) (u : Use) (path : List �
 
 module _ (ms : List Module) (depth : ℕ) (x : Instance) (at : Place) where
   abbrev u : Use
-  u = use_of at.scopes x
+  u = use_of has_any at.scopes x
 
   abbrev inside : List ℕ
   inside = at.path ++ x.name ++ codes "."

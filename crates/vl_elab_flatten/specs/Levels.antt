@@ -4,13 +4,13 @@ use Rattle.std.specs.Prelude.{◌≡◌, ℕ, List, [], ◌∷◌, ◌++◌, tru
 use Rattle.vl_tree.specs.declared.declaration.Parameter.{Parameter}
 use Rattle.vl_tree.specs.declared.declaration.ParameterKind.{ParameterKind}
 use Rattle.vl_tree.specs.declared.declaration.ParameterKind.TheVariants as k
-use Rattle.vl_tree.specs.Expr.{Expr}
 use Rattle.vl_size.specs.declared.decl.Decl.{Decl}
 use Rattle.vl_mean.specs.Constants.{Constants}
 use Rattle.vl_mean.specs.Declarations.{Overrides, with_parameters}
 use Rattle.vl_mean.specs.Scopes.{Scope}
 use Rattle.vl_elab_spec.specs.Meanings.{Names, constant, faulty}
 use Rattle.vl_elab_scope.specs.Seen.{with_name}
+use Rattle.vl_elab_const.specs.declared.given.Value.{Value}
 use Rattle.vl_elab_const.specs.Given.{IsGiven}
 use Rattle.vl_elab_const.specs.Numbers.{HaveNumbers}
 use Rattle.vl_elab_const.specs.Openable.{Different, constant_names}
@@ -42,7 +42,7 @@ pub record HasConstants (path : List ℕ) (cs : Constants) (outer : List Names) 
 
 -- Constants are added that have these names and follow from those before them, from what is given to parameters and
 -- from the scopes around.
-abbrev pub Adds : (List ℕ → Option Expr) → (Overrides → List Scope → Constants → Constants) → List (List ℕ) → Scope
+abbrev pub Adds : (List ℕ → Option Value) → (Overrides → List Scope → Constants → Constants) → List (List ℕ) → Scope
     → List Names → Scope → List Names → Type 0
 Adds given follow names s ns new news =
     (os : Overrides) (ss : List Scope) (path : List ℕ) (cs : Constants) (outer : List Names) → IsGiven given os

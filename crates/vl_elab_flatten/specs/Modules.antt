@@ -14,6 +14,7 @@ use Rattle.vl_mean.specs.Runs.{Each}
 use Rattle.vl_mean.specs.Scopes.{Scope}
 use Rattle.vl_mean.specs.Walk.{Use, module_around, module_names, module_scope, parameter_names, port_names}
 use Rattle.vl_elab_scope.specs.Seen.{innermost}
+use Rattle.vl_elab_const.specs.declared.given.Value.{Value}
 use Rattle.vl_elab_const.specs.Given.{IsGiven}
 use Rattle.vl_elab_const.specs.Numbers.{HaveNumbers}
 use Rattle.vl_elab_decls.specs.declared.inputs.Inputs.{Inputs}
@@ -56,7 +57,7 @@ names_with hs ps xs = parameter_names (header_parameters hs) ++ port_names (full
 
 -- there is a use of these inputs and with these values in which its scope can be opened
 pub record CanOpen (hs : List HeaderParameter) (ps : List Port) (xs : Items) (inputs : Inputs)
-    (given : List ℕ → Option Expr) (path : List ℕ) : Type 0 where
+    (given : List ℕ → Option Value) (path : List ℕ) : Type 0 where
   pub used : Use
   pub inputs_are : AreInputs inputs used
   pub given_is : IsGiven given used.overrides
@@ -99,7 +100,7 @@ pub record IsOpened (hs : List HeaderParameter) (ps : List Port) (xs : Items) (u
 -- ---- of a module
 
 -- there is a use of these inputs and with these values in which its scope can be opened
-pub record IsModuleOpenable (m : Module) (inputs : Inputs) (given : List ℕ → Option Expr) (path : List ℕ) : Type 0
+pub record IsModuleOpenable (m : Module) (inputs : Inputs) (given : List ℕ → Option Value) (path : List ℕ) : Type 0
   where
     pub used : Use
     pub inputs_are : AreInputs inputs used

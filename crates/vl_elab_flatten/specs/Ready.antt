@@ -11,6 +11,7 @@ use Rattle.vl_size.specs.Size.{is_bound}
 use Rattle.vl_mean.specs.declared.const_number.Const.{Const}
 use Rattle.vl_mean.specs.Declarations.{block_name, label_of}
 use Rattle.vl_mean.specs.Runs.{Each}
+use Rattle.vl_mean.specs.Walk.{all_valued}
 use Rattle.vl_mean.specs.Walk.{
   Place,
   Step,
@@ -97,7 +98,7 @@ module _ (ms : List Module) (depth : ℕ) where
       seen_steps (loop_turns head at.scopes (turn_body head b at (block_name at.names n (label_of b))))
 
   abbrev pub instance_seen : Instance → Place → List Seen
-  instance_seen x at = seen_steps (instance_steps ms (unfolded depth ms) at x)
+  instance_seen x at = seen_steps (instance_steps all_valued ms (unfolded depth ms) at x)
 
   -- of a module that is opened so: its ports, and its items
   abbrev pub opened_seen : Module → Opened → List Seen

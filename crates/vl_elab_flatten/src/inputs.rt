@@ -2,7 +2,7 @@
 ghost use Rattle.std.specs.Prelude.{◌≡◌, ℕ, List, false, IfOk};
 ghost use Rattle.vl_tree.specs.declared.part.Instance.{Instance as SpecInstance};
 ghost use Rattle.vl_mean.specs.Scopes as scopes_spec;
-ghost use Rattle.vl_mean.specs.Walk.{use_of};
+ghost use Rattle.vl_mean.specs.Walk.{has_any, use_of};
 ghost use Rattle.vl_elab_names.specs.Known.{contains};
 ghost use Rattle.vl_elab_decls.specs.Inputs.{AreInputs};
 ghost use Rattle.vl_elab_check_instance.specs.Clock as spec;
@@ -46,7 +46,7 @@ pub(crate) fn joined_inputs(
     scopes: &Scopes,
 ) -> Result<Inputs, Memory>
     ensures { IfOk result (λ inputs. (x : SpecInstance) → x.connections ≡ all.now
-        → AreInputs inputs (use_of scopes.now x)) }
+        → AreInputs inputs (use_of has_any scopes.now x)) }
 {
     Ok(Inputs::Joined(all_joined(alloc, all, scopes)?))
 }

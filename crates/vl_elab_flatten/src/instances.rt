@@ -36,9 +36,9 @@ pub(crate) fn open_instance(
     here: &Here,
 ) -> Result<Opened, Memory>
     requires numbers { HaveNumbers here.now.numbers here.now.scopes }
-    requires openable { IsOpenable (walk.module_scope module.now (walk.use_of here.now.scopes instance.now)
+    requires openable { IsOpenable (walk.module_scope module.now (walk.use_of walk.has_any here.now.scopes instance.now)
         (here.now.path ++ instance.now.name ++ codes ".")) }
-    ensures { IfOk result (λ opened. IsModuleOpened module.now (walk.use_of here.now.scopes instance.now)
+    ensures { IfOk result (λ opened. IsModuleOpened module.now (walk.use_of walk.has_any here.now.scopes instance.now)
         (here.now.path ++ instance.now.name ++ codes ".") opened) }
 {
     let given = given_by(alloc, connections_of(&instance.overrides), &here.numbers)?;

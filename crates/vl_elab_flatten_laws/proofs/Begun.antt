@@ -48,7 +48,7 @@ use Rattle.vl_mean.specs.Parts.{initial_parts, target_of}
 use Rattle.vl_mean.specs.Parts.{all_initial_parts, item_parts, step_parts}
 use Rattle.vl_mean.specs.Runs.{Each}
 use Rattle.vl_mean.specs.Scopes.{Scope, is_clock}
-use Rattle.vl_mean.specs.Walk.{Place, Step, Use, header, port, item, override, connection, walk}
+use Rattle.vl_mean.specs.Walk.{Place, Step, Use, header, port, item, override, connection, block_step, walk}
 use Rattle.vl_mean_flat.proofs.EachOf.{both}
 use Rattle.vl_elab_accepted_laws.proofs.Fresh.{IsFine, NoneOf, none-front, none-back, not-refused}
 use Rattle.vl_elab_accepted_laws.proofs.Loops.{AreFine}
@@ -211,6 +211,7 @@ begun_step ms (header at x) r s w h = tt
 begun_step ms (port at u p q) r s w h = begun_port at u p q r s w.0 w.1 h
 begun_step ms (item at x) r s w h = begun_item ms at x r s w h
 begun_step ms (override at m u given x) r s w h = tt
+begun_step ms (block_step at b) r s w h = tt
 begun_step ms (connection at m u inside given x) r s w h =
     begun_joined at.scopes inside (port_named (ports_of m.ports) x.port) x.value
 

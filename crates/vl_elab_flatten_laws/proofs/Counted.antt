@@ -36,7 +36,7 @@ use Rattle.vl_mean.specs.Parts.{block_part, connection_part, declares_all, desig
 use Rattle.vl_mean.specs.Parts.{optional_value, parts_of_steps, plain, plain_target, port_kind, port_part, step_parts}
 use Rattle.vl_mean.specs.Parts.{target_of, targets_of, values_of, with_target}
 use Rattle.vl_mean.specs.Scopes.{Scope, is_clock}
-use Rattle.vl_mean.specs.Walk.{Place, Step, header, port, item, override, connection, walk}
+use Rattle.vl_mean.specs.Walk.{Place, Step, header, port, item, override, connection, block_step, walk}
 use Rattle.vl_mean_flat.specs.Flattened.{decls_of}
 use Rattle.vl_elab_spec.specs.declared.elab_fault.ElabFault.{ElabFault}
 use Rattle.vl_elab_spec.specs.declared.elab_fault.ElabFault.TheVariants as f
@@ -240,6 +240,7 @@ step_few (port at u p q) =
     let here = value_few at.scopes (port_kind q.net) q.name q.value in omega (arith, here)
 step_few (item at x) = item_few at x
 step_few (override at m u given x) = omega arith
+step_few (block_step at b) = omega arith
 step_few (connection at m u inside given x) =
     port_few at.scopes inside (port_named (ports_of m.ports) x.port) x.value
 
@@ -359,6 +360,7 @@ step_declares (port at u p q) =
     (value_names at.scopes (port_kind q.net) q.name q.value)
 step_declares (item at x) = item_declares at x
 step_declares (override at m u given x) = refl
+step_declares (block_step at b) = refl
 step_declares (connection at m u inside given x) =
     port_part_names at.scopes inside (port_named (ports_of m.ports) x.port) x.value
 

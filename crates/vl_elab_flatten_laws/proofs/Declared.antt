@@ -25,7 +25,7 @@ use Rattle.vl_mean.specs.Parts.{Part, declares, equation, combinational, clocked
 use Rattle.vl_mean.specs.Parts.{item_parts, optional_value, parts_of_steps, port_kind, step_parts, values_of}
 use Rattle.vl_mean.specs.Runs.{Each}
 use Rattle.vl_mean.specs.Scopes.{Scope, constant_in}
-use Rattle.vl_mean.specs.Walk.{Place, Step, header, port, item, override, connection, walk}
+use Rattle.vl_mean.specs.Walk.{Place, Step, header, port, item, override, connection, block_step, walk}
 use Rattle.vl_mean_flat.specs.Flattened.{decls_of}
 use Rattle.vl_mean_flat.proofs.EachOf.{both}
 use Rattle.vl_mean_flat.proofs.LaidScopes.{decls_append}
@@ -213,6 +213,7 @@ step_declarable ms (port at u p q) r s b w k h =
     (optional-none at.scopes (port_kind q.net) q.name q.value))
 step_declarable ms (item at x) r s b w k h = item_declarable ms at x r.0 (all_sure at s) b w h
 step_declarable ms (override at m u given x) r s b w k h = tt
+step_declarable ms (block_step at b) r s c w k h = tt
 step_declarable ms (connection at m u inside given x) r s b w k h =
     none_declarable (step_parts (connection at m u inside given x))
     (connection-none at.scopes inside (port_named (ports_of m.ports) x.port) x.value)

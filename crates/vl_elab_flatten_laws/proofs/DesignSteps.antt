@@ -6,7 +6,7 @@ use Rattle.vl_mean.specs.declared.flat.Flat.{Flat}
 use Rattle.vl_mean.specs.FlatParts.{flat_parts}
 use Rattle.vl_mean.specs.Parts.{design, parts_of_steps, step_parts}
 use Rattle.vl_mean.specs.Runs.{Each}
-use Rattle.vl_mean.specs.Walk.{Step, header, port, item, override, connection, walk}
+use Rattle.vl_mean.specs.Walk.{Step, header, port, item, override, connection, block_step, walk}
 use Rattle.vl_mean_flat.specs.Flattened.{Known}
 use Rattle.vl_mean_flat.specs.SameMaps.{AreSameMaps}
 use Rattle.vl_mean_flat.proofs.EachOf.{both}
@@ -30,6 +30,7 @@ known_step ms (header at x) r s w h = tt
 known_step ms (port at u p q) r s w h = known_port at u p q r s w.0 w.1 h
 known_step ms (item at x) r s w h = known_item ms at x r s w h
 known_step ms (override at m u given x) r s w h = tt
+known_step ms (block_step at b) r s w h = tt
 known_step ms (connection at m u inside given x) r s w h =
     known_connection at m u inside given x r.0 s.0 r.1 s.1 s.2 w h
 

@@ -102,8 +102,8 @@ inner_declared : (m : Module) (u : Use) (text : List ℕ) (d : Decl) (role : Rol
     → declared_as (module_scope m u []).decls text ≡ Some d
 inner_declared m u text d role scalar e =
     here_declared (module_scope m u []) text
-    (meaning_of (scope_meanings (module_scope m u []) [] (module_contents m u)) text) d role scalar e
-    (level_means (module_scope m u []) [] (module_contents m u) (module_laid m u []) text)
+    (meaning_of (scope_meanings (module_scope m u []) [] [] (module_contents m u)) text) d role scalar e
+    (level_means (module_scope m u []) [] [] (module_contents m u) (module_laid m u []) text)
 
 port_is : (m : Module) (u : Use) (text : List ℕ) (p : FullPort) (d : Decl) (role : Role) (scalar : Bool)
     → port_named (ports_of m.ports) text ≡ Some p → meaning_in (inner_meanings m u) text ≡ object d role scalar

@@ -19,7 +19,7 @@ use Rattle.vl_mean.specs.Parts.{design, declares_all, item_parts, parts_of_steps
 use Rattle.vl_mean.specs.Parts.{optional_value}
 use Rattle.vl_mean.specs.Runs.{Each}
 use Rattle.vl_mean.specs.Scopes.{constant_in}
-use Rattle.vl_mean.specs.Walk.{Place, Step, header, port, item, override, connection, walk}
+use Rattle.vl_mean.specs.Walk.{Place, Step, header, port, item, override, connection, block_step, walk}
 use Rattle.vl_mean_flat.specs.Flattened.{decls_of}
 use Rattle.vl_mean_flat.proofs.EachOf.{both}
 use Rattle.vl_elab_spec.specs.Items.{item_refusals, given_value, names_refusals, port_net, range_refusals}
@@ -100,6 +100,7 @@ fit_step ms (port at u p q) r s b w h =
     (optional_fits at.scopes (port_kind q.net) q.name q.value)
 fit_step ms (item at x) r s b w h = fit_item ms at x r.0 (all_sure at s) b w.1 h
 fit_step ms (override at m u given x) r s b w h = tt
+fit_step ms (block_step at b) r s c w h = tt
 fit_step ms (connection at m u inside given x) r s b w h =
     port_fits at.scopes inside (port_named (ports_of m.ports) x.port) x.value
 

@@ -19,7 +19,7 @@ use Rattle.vl_mean.specs.FlatLaw.{IsAssigned, IsDriver, is_variable}
 use Rattle.vl_mean.specs.Parts.{Part, declares, equation, combinational, clocked, starts, design, item_parts, port_kind}
 use Rattle.vl_mean.specs.Parts.{parts_of_steps, step_parts, values_of}
 use Rattle.vl_mean.specs.Runs.{Each}
-use Rattle.vl_mean.specs.Walk.{Place, Step, header, port, item, override, connection, walk}
+use Rattle.vl_mean.specs.Walk.{Place, Step, header, port, item, override, connection, block_step, walk}
 use Rattle.vl_mean_flat.specs.Flattened.{decls_of}
 use Rattle.vl_mean_flat.specs.StepScopes.{StepScopes}
 use Rattle.vl_mean_flat.proofs.EachOf.{both}
@@ -91,6 +91,7 @@ module _ (ms : List Module) (es : List Decl) where
       )
   drawn_step (item at x) r s i w l h = drawn_item at x r s l w h
   drawn_step (override at m u given x) r s i w l h = tt
+  drawn_step (block_step at b) r s i w l h = tt
   drawn_step (connection at m u inside given x) r s i w l h =
       drawn_connection at m u inside es given x r.0 s.0 r.1 s.1 s.2 l.0 l.1 i w h
 

@@ -38,6 +38,8 @@ use Rattle.vl_mean.specs.Constants.{constant_operand}
 use Rattle.vl_mean.specs.Declarations.{block_name, constructs, full_port, is_if, label_of, names_of, ports_of}
 use Rattle.vl_mean.specs.Runs.{Each}
 use Rattle.vl_mean.specs.Scopes.{Scope, constant_in}
+use Rattle.vl_mean.specs.Walk.{all_valued}
+use Rattle.vl_mean.specs.Walk.{has_any}
 use Rattle.vl_mean.specs.Walk.{Place, Step, Unfolding, Use, block_path, block_place, block_steps, connection_steps}
 use Rattle.vl_mean.specs.Walk.{connections_of, first_turn, goes_on, header_steps, instance_steps, item, item_steps}
 use Rattle.vl_mean.specs.Walk.{items_steps, loop_turns, module_named, module_parameters, module_place, module_scope}
@@ -129,9 +131,9 @@ module _ (ms : List Module) where
     abbrev Steps : Item → Place → ℕ → List Step
     Steps x at n = item_steps ms inner x at n
 
-    one_instance : (at : Place) (x : Instance) → AreOpenable at.scopes → Follows (instance_steps ms inner at x)
+    one_instance : (at : Place) (x : Instance) → AreOpenable at.scopes → Follows (instance_steps all_valued ms inner at x)
     one_instance at x h known =
-        let u : Use = use_of at.scopes x in
+        let u : Use = use_of has_any at.scopes x in
         let inside : List ℕ = at.path ++ x.name ++ codes "." in
         found (module_named ms x.definition) _
         (λ m. unfolds m u inside at.modules _ (λ s k.
@@ -216,32 +218,42 @@ module _ (ms : List Module) where
 
       one_turn : (b : Block) (at : Place) (path : List ℕ) → AreOpenable at.scopes
           → Follows (turn_steps ms inner b at path)
-      one_turn (begin p label xs) at path h k =
-          all_items xs (block_place at path xs) 1
-          (inside_block at path xs h (items_known xs (block_place at path xs) 1 k)) k
-      one_turn (region p xs) at path h k =
-          all_items xs (block_place at path xs) 1
-          (inside_block at path xs h (items_known xs (block_place at path xs) 1 k)) k
+      one_turn (begin p label xs) at path h k = (
+        h,
+        all_items xs (block_place at path xs) 1
+            (inside_block at path xs h (items_known xs (block_place at path xs) 1 k.1)) k.1,
+      )
+      one_turn (region p xs) at path h k = (
+        h,
+        all_items xs (block_place at path xs) 1
+            (inside_block at path xs h (items_known xs (block_place at path xs) 1 k.1)) k.1,
+      )
       one_turn (single x) at path h k =
           let xs : Items = more_items x no_items in
           let inside : Place = block_place at path xs in
-          one_item x inside 1 (inside_block at path xs h (first_known x inside 1 k, tt)) k
+          (h, one_item x inside 1 (inside_block at path xs h (first_known x inside 1 k.1, tt)) k.1)
 
       one_block : (b : Block) (at : Place) (n : ℕ) → AreOpenable at.scopes → Follows (block_steps ms inner b at n)
       one_block (begin p label xs) at n h k =
-          let path : List ℕ = block_path at (block_name at.names n label) in
-          all_items xs (block_place at path xs) 1
-          (inside_block at path xs h (items_known xs (block_place at path xs) 1 k)) k
+          let path : List ℕ = block_path at (block_name at.names n label) in (
+            h,
+            all_items xs (block_place at path xs) 1
+                (inside_block at path xs h (items_known xs (block_place at path xs) 1 k.1)) k.1,
+          )
       one_block (region p xs) at n h k =
-          let path : List ℕ = block_path at (block_name at.names n None) in
-          all_items xs (block_place at path xs) 1
-          (inside_block at path xs h (items_known xs (block_place at path xs) 1 k)) k
+          let path : List ℕ = block_path at (block_name at.names n None) in (
+            h,
+            all_items xs (block_place at path xs) 1
+                (inside_block at path xs h (items_known xs (block_place at path xs) 1 k.1)) k.1,
+          )
       one_block (single x) at n h k =
           let path : List ℕ = block_path at (block_name at.names n None) in
           let xs : Items = more_items x no_items in
-          let inside : Place = block_place at path xs in
-          one_single (is_if x) x at inside n (λ k. one_item x at n h k)
-          (λ k. one_item x inside 1 (inside_block at path xs h (first_known x inside 1 k, tt)) k) k
+          let inside : Place = block_place at path xs in (
+            h,
+            one_single (is_if x) x at inside n (λ k. one_item x at n h k)
+                (λ k. one_item x inside 1 (inside_block at path xs h (first_known x inside 1 k, tt)) k) k.1,
+          )
 
   one_module : (n : ℕ) → Unfolds (λ m u path modules before. unfolded n ms m u path modules before)
   one_module zero m u path modules before f k = tt

@@ -23,9 +23,11 @@ use Rattle.vl_tree.specs.Item.{
   more_items,
 }
 use Rattle.vl_elab_spec.specs.Meanings.{Names}
+use Rattle.vl_elab_scope.specs.Seen.{innermost}
 use Rattle.vl_elab_params.specs.Entered.{Stacks, stacks, with_parameter, with_parameters, none_given, with_item}
 use Rattle.vl_elab_params.specs.Entered.{with_items}
 use Rattle.vl_elab_params.specs.Entered.{entered}
+use Rattle.vl_elab_const.specs.declared.given.Value.{Value}
 
 -- ---- the scopes around stay
 
@@ -35,17 +37,17 @@ outer_names s = drop 1 s.names
 abbrev outer_numbers : Stacks → List Names
 outer_numbers s = drop 1 s.numbers
 
-parameters_names : (given : List ℕ → Option Expr) (s : Stacks) (xs : List Parameter)
+parameters_names : (given : List ℕ → Option Value) (s : Stacks) (xs : List Parameter)
     → outer_names (with_parameters given s xs) ≡ outer_names s
 parameters_names given s [] = refl
 parameters_names given s (x ∷ xs) = parameters_names given (with_parameter given s x) xs
 
-parameters_numbers : (given : List ℕ → Option Expr) (s : Stacks) (xs : List Parameter)
+parameters_numbers : (given : List ℕ → Option Value) (s : Stacks) (xs : List Parameter)
     → outer_numbers (with_parameters given s xs) ≡ outer_numbers s
 parameters_numbers given s [] = refl
 parameters_numbers given s (x ∷ xs) = parameters_numbers given (with_parameter given s x) xs
 
-module _ (given : List ℕ → Option Expr) where
+module _ (given : List ℕ → Option Value) where
   item_names : (s : Stacks) (x : Item) → outer_names (with_item given s x) ≡ outer_names s
   item_names s (parameter attrs p k.Parameter xs) = parameters_names given s xs
   item_names s (parameter attrs p k.Localparam xs) = parameters_names none_given s xs
@@ -88,13 +90,18 @@ drop_two : (ns : List Names) → drop 2 ns ≡ drop 1 (drop 1 ns)
 drop_two [] = refl
 drop_two (n ∷ ns) = refl
 
-module _ (given : List ℕ → Option Expr) (parameters : List Parameter) (all : Items) (behind : Names)
+module _ (given : List ℕ → Option Value) (parameters : List Parameter) (all : Items) (behind : Names)
     (around beneath : List Names) where
   pub entered_around : (names numbers : List Names)
       → stacks names numbers ≡ entered given parameters all behind around beneath → drop 2 names ≡ around
   entered_around names numbers e =
       drop_two names
       ∙ ap (drop 1) (ap outer_names e ∙ items_names given _ all ∙ parameters_names given _ parameters)
+
+  pub entered_behind : (names numbers : List Names)
+      → stacks names numbers ≡ entered given parameters all behind around beneath → innermost (drop 1 names) ≡ behind
+  entered_behind names numbers e =
+      ap innermost (ap outer_names e ∙ items_names given _ all ∙ parameters_names given _ parameters)
 
   pub entered_beneath : (names numbers : List Names)
       → stacks names numbers ≡ entered given parameters all behind around beneath → drop 1 numbers ≡ beneath

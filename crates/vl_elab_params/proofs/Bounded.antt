@@ -1,5 +1,5 @@
 -- What is known of a parameter whose range is known, or isn't.
-use Rattle.std.specs.Prelude.{◌≡◌, refl, ℕ, ◌≤◌, List, Bool, true, false, ◌&&◌, ◌||◌, is_some, nat_le}
+use Rattle.std.specs.Prelude.{◌≡◌, refl, ℕ, ◌≤◌, List, Bool, true, false, ◌&&◌, nat_le}
 use Rattle.std.specs.Prelude.{◌+◌, ◌-◌, ◌^◌, nat_abs, Option, Some, None, if◌then◌else◌}
 use Rattle.std.proofs.Common.{ap, sym, ◌∙◌, arith, ℤ, pos, negsuc, ◌-ℤ◌, ◌≤ℤ◌, ◌<ℤ◌}
 use Rattle.std.proofs.lemmas.Bool.Decides.{nat_tests}
@@ -16,6 +16,8 @@ use Rattle.vl_elab_params.specs.declared.extents.Bounds.{Bounds}
 use Rattle.vl_elab_params.specs.declared.extents.Extent.{Extent}
 use Rattle.vl_elab_params.specs.Known.{as_extent, bounds_of, few_bits, known_extent, extent_of, left_bound, right_bound}
 use Rattle.vl_elab_params.specs.Known.{goes_down_to_0}
+use Rattle.vl_elab_const.specs.declared.given.Value.{Value}
+use Rattle.vl_elab_const.specs.Given.{known_or}
 
 -- a bound that is there
 module _ (i x : ℤ) (o : Option ℤ) (h : o ≡ (if is_bound i then Some i else None)) (k : o ≡ Some x) where
@@ -111,45 +113,34 @@ extent_selected ns r e h =
 
 -- ---- what comes of it
 
-module _ (given : List ℕ → Option Expr) (ns : List Names) (x : Parameter) where
-  selected_by : (g v s a b : Bool) → s ≡ true → b ≡ a
-      → (if (g || v) && s then Some a else None) ≡ (if g || v then Some b else None)
-  selected_by true v true a b k e = ap Some (sym e)
-  selected_by false true true a b k e = ap Some (sym e)
-  selected_by false false true a b k e = refl
-  selected_by g v false a b k e = cc
+module _ (given : List ℕ → Option Value) (ns : List Names) (x : Parameter) where
+  abbrev is_known : Bool
+  is_known = known_or (given x.name) (is_known_value ns x.shape.range x.value)
 
   module _ (e : Extent) (b : Bool) (h : known_extent ns x.shape.range ≡ Some e)
       (same : b ≡ goes_down_to_0 e.left e.right) where
     is_selected : b ≡ may_be_selected ns x.shape.range
     is_selected = same ∙ extent_selected ns x.shape.range e h
 
-    -- a value that is given
-    pub given_selected : is_some (given x.name) ≡ true → Some b ≡ selected_if_known given ns x
-    given_selected k =
-        ap (λ g. if g || is_known_value ns x.shape.range x.value then Some b else None) (sym k)
-        ∙ sym (selected_by (is_some (given x.name)) (is_known_value ns x.shape.range x.value)
-        (is_known_shape ns x.shape.range) (may_be_selected ns x.shape.range) b (extent_is ns x.shape.range e h).known
-        is_selected)
-
-    -- its own
-    pub own_selected : (v : Bool) → is_some (given x.name) ≡ false → v ≡ is_known_value ns x.shape.range x.value
-        → (if v then Some b else None) ≡ selected_if_known given ns x
-    own_selected v k w =
-        (λ j. if (sym k j) || (w j) then Some b else None)
-        ∙ sym (selected_by (is_some (given x.name)) (is_known_value ns x.shape.range x.value)
-        (is_known_shape ns x.shape.range) (may_be_selected ns x.shape.range) b (extent_is ns x.shape.range e h).known
-        is_selected)
+    pub selected_by : (v : Bool) → v ≡ is_known → (if v then Some b else None) ≡ selected_if_known given ns x
+    selected_by v w =
+        ap (λ k. if k then Some b else None) w
+        ∙ by is_known (is_known_shape ns x.shape.range) (may_be_selected ns x.shape.range)
+        (extent_is ns x.shape.range e h).known is_selected
+      where
+        by : (k s a : Bool) → s ≡ true → b ≡ a
+            → (if k then Some b else None) ≡ (if k && s then Some a else None)
+        by true true a h e = ap Some e
+        by false s a h e = refl
+        by true false a h e = cc
 
   -- without a range that is known
   pub none_selected : None ≡ known_extent ns x.shape.range → None ≡ selected_if_known given ns x
   none_selected h =
-      by (is_some (given x.name)) (is_known_value ns x.shape.range x.value) (is_known_shape ns x.shape.range)
-      (may_be_selected ns x.shape.range) (extent_of ns x.shape.range) h
+      by is_known (is_known_shape ns x.shape.range) (may_be_selected ns x.shape.range) (extent_of ns x.shape.range) h
     where
-      by : (g v s a : Bool) (e : Extent) → None ≡ (if s then Some e else None)
-          → None ≡ (if (g || v) && s then Some a else None)
-      by g v true a e h = cc
-      by true v false a e h = refl
-      by false true false a e h = refl
-      by false false false a e h = refl
+      by : (k s a : Bool) (e : Extent) → None ≡ (if s then Some e else None)
+          → None ≡ (if k && s then Some a else None)
+      by k true a e h = cc
+      by true false a e h = refl
+      by false false a e h = refl

@@ -1,5 +1,5 @@
 -- Parameters, one behind the other, mean what the definitions say of them.
-use Rattle.std.specs.Prelude.{◌≡◌, refl, ℕ, List, [], ◌∷◌, ◌++◌, Bool, true, false, ◌&&◌, ◌||◌, bytes_eq, is_none}
+use Rattle.std.specs.Prelude.{◌≡◌, refl, ℕ, List, [], ◌∷◌, ◌++◌, Bool, true, false, ◌&&◌, bytes_eq, is_none}
 use Rattle.std.specs.Prelude.{nat_le, int_le, pos, Option, Some, None, if◌then◌else◌}
 use Rattle.std.proofs.Common.{ap, sym, ◌∙◌, subst}
 use Rattle.std.proofs.lemmas.Slice.Eq.{bytes_eq-Decides}
@@ -30,7 +30,7 @@ use Rattle.vl_size.specs.Size.{size}
 use Rattle.vl_mean.specs.declared.const_number.Const.{Const}
 use Rattle.vl_mean.specs.Constants.{Constants, constant_of}
 use Rattle.vl_mean.specs.Declarations as d
-use Rattle.vl_mean.specs.Declarations.{Overrides, parameter_value, with_constants}
+use Rattle.vl_mean.specs.Declarations.{Overrides, is_value_or, parameter_value, with_constants}
 use Rattle.vl_mean.specs.Scopes.{Scope, constant_in, constant_unless}
 use Rattle.vl_elab_spec.specs.Meanings as m
 use Rattle.vl_elab_spec.specs.Meanings.{Meaning, undeclared, constant, loop_variable, object, faulty, shapeless, later}
@@ -42,6 +42,7 @@ use Rattle.vl_elab_scope.specs.Seen.{IsNamed, AreNamed, with_name}
 use Rattle.vl_elab_scope.specs.Alike.{Alike}
 use Rattle.vl_elab_scope.proofs.Items.{same_known_range, same_declared_width}
 use Rattle.vl_elab_scope.proofs.Sizes.{same_known, same_is_known, same_bound}
+use Rattle.vl_elab_const.specs.declared.given.Value.{Value}
 use Rattle.vl_elab_const.specs.Given.{IsGiven}
 use Rattle.vl_elab_const.specs.Numbers.{HaveNumbers, parameter_number}
 use Rattle.vl_elab_const.proofs.Values.{number_is}
@@ -72,14 +73,15 @@ module _ (ns ms : List Names) (h : Alike ns ms) where
       λ i. int_le (pos 0) (same_bound ns ms h r.left i) && int_le (same_bound ns ms h r.right i) (pos 0)
       && int_le (pos 0) (same_bound ns ms h r.right i)
 
-  same_parameter : (given : List ℕ → Option Expr) (os : Overrides) → IsGiven given os → (x : Parameter)
+  same_parameter : (given : List ℕ → Option Value) (os : Overrides) → IsGiven given os → (x : Parameter)
       → is_known_parameter given ns x ≡ m.is_known_parameter os ms x
   same_parameter given os g x =
-      λ i. (sym (g.there x.name) i || same_value x.shape.range x.value i) && same_shape x.shape.range i
+      (λ i. sym (g.known x.name (is_known_value ns x.shape.range x.value)) i && is_known_shape ns x.shape.range)
+      ∙ (λ i. is_value_or os x.name (same_value x.shape.range x.value i) && same_shape x.shape.range i)
 
 -- a `localparam`
 nothing_given : IsGiven none_given []
-nothing_given = record { value = λ text x. refl; there = λ text. refl }
+nothing_given = record { value = λ text x. refl; known = λ text b. refl; there = λ text. refl }
 
 -- ---- meanings and numbers
 
@@ -210,7 +212,7 @@ module _ (s : Scope) (behind later_names : Names) (outer around numbers : List N
         value_unless (meaning_of values text) (meaning_in numbers text) (constant_of cs text) (constant_in ss text)
         (h.value text) (h.only text) (same_numbers text)
 
-    module _ (given : List ℕ → Option Expr) (os : Overrides) (g : IsGiven given os) (x : Parameter)
+    module _ (given : List ℕ → Option Value) (os : Overrides) (g : IsGiven given os) (x : Parameter)
         (all : (text : List ℕ) (c : Const)
         → constant_of (cs ++ (x.name, parameter_value os (with_constants cs ss) x) ∷ []) text ≡ Some c
         → constant_of s.constants text ≡ Some c) where
@@ -344,7 +346,7 @@ module _ (s : Scope) (behind later_names : Names) (outer around numbers : List N
   kept_values t ns cs h =
       subst (λ t. HaveNumbers t.numbers (with_constants cs ss)) (sym h.2) (kept_numbers h.0 h.1 ns cs h.3)
 
-  parameters_kept : (given : List ℕ → Option Expr) (os : Overrides) → IsGiven given os → (xs : List Parameter)
+  parameters_kept : (given : List ℕ → Option Value) (os : Overrides) → IsGiven given os → (xs : List Parameter)
       (own values ns : Names) (cs : Constants) → AreKept own values ns cs → AreAll (d.with_parameters os ss cs xs)
       → Kept (with_parameters given (stacks (own ∷ later_names ∷ around) (values ∷ numbers)) xs)
       (with_parameter_meanings s outer os behind ns xs) (d.with_parameters os ss cs xs)
@@ -354,7 +356,7 @@ module _ (s : Scope) (behind later_names : Names) (outer around numbers : List N
       parameters_kept given os g xs _ _ _ (cs ++ more) (kept_next own values ns cs h given os g x
       (λ text c e. all text c (parameters_keep os (cs ++ more) xs text c e))) all
 
-  module _ (given : List ℕ → Option Expr) (os : Overrides) (g : IsGiven given os) where
+  module _ (given : List ℕ → Option Value) (os : Overrides) (g : IsGiven given os) where
     -- behind parameters of an item
     behind_item : (t : Stacks) (ns : Names) (cs : Constants) (more : Items) → Kept t ns cs
         → ((own values : Names) → AreKept own values ns cs

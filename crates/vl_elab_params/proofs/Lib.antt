@@ -10,3 +10,4 @@ pub mod Listing
 pub mod Next
 pub mod Over
 pub mod Passing
+pub mod Shadowing

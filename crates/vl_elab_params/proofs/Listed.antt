@@ -16,7 +16,7 @@ inner_or here around = if is_undeclared here then around else here
 abbrev pub named_only : List ℕ → Meaning → List ℕ → Meaning
 named_only text m other = if bytes_eq other text then m else undeclared
 
-named_there : (text : List ℕ) (m : Meaning) → IsNamed (text, m) → is_undeclared m ≡ false
+pub named_there : (text : List ℕ) (m : Meaning) → IsNamed (text, m) → is_undeclared m ≡ false
 named_there text undeclared h = absurd h
 named_there text (constant c selected) h = refl
 named_there text loop_variable h = refl
@@ -25,7 +25,7 @@ named_there text faulty h = refl
 named_there text shapeless h = refl
 named_there text later h = refl
 
-not_undeclared : (m : Meaning) → is_undeclared m ≡ true → m ≡ undeclared
+pub not_undeclared : (m : Meaning) → is_undeclared m ≡ true → m ≡ undeclared
 not_undeclared undeclared h = refl
 not_undeclared (constant c selected) h = cc
 not_undeclared loop_variable h = cc

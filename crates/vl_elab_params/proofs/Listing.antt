@@ -32,8 +32,7 @@ use Rattle.vl_elab_spec.specs.Meanings as m
 use Rattle.vl_elab_spec.specs.Meanings.{Meaning, constant, faulty}
 use Rattle.vl_elab_spec.specs.Meanings.{Names, meaning_of, all_later, constant_or, may_be_selected, scope_meanings}
 use Rattle.vl_elab_spec.specs.Meanings.{with_parameter_meanings, with_item_constants, parameters_of}
-use Rattle.vl_elab_spec.specs.Meanings.{port_meanings, items_meanings}
-use Rattle.vl_elab_params.specs.Reached.{scope_parameters}
+use Rattle.vl_elab_spec.specs.Meanings.{port_meanings, items_meanings, scope_parameters}
 
 abbrev pub is_parameter : Meaning → Bool
 is_parameter (constant c selected) = true
@@ -41,15 +40,15 @@ is_parameter faulty = true
 is_parameter n = false
 
 -- each of them is a parameter
-abbrev AllParameters : Names → Type 0
+abbrev pub AllParameters : Names → Type 0
 AllParameters [] = Unit {0}
 AllParameters (n ∷ ns) = (is_parameter n.1 ≡ true) × AllParameters ns
 
-abbrev texts : Names → List (List ℕ)
+abbrev pub texts : Names → List (List ℕ)
 texts ns = map (λ n. n.0) ns
 
 -- the parameters of these names, in their order
-record AreOf (ns : Names) (names : List (List ℕ)) : Type 0 where
+pub record AreOf (ns : Names) (names : List (List ℕ)) : Type 0 where
   pub all : AllParameters ns
   pub named : texts ns ≡ names
 
@@ -111,12 +110,12 @@ module _ (s : Scope) (outer : List Names) where
   of_items os behind ns names (more_items (if_only attrs p c b) more) h = of_items os behind ns names more h
   of_items os behind ns names (more_items (if_else attrs p c b d) more) h = of_items os behind ns names more h
 
-  abbrev own_names : Contents → Names
+  abbrev pub own_names : Contents → Names
   own_names c =
       with_item_constants s outer c.overrides (all_later c)
       (with_parameter_meanings s outer c.overrides (all_later c) [] c.parameters) c.items
 
-  of_scope : (c : Contents) → AreOf (own_names c) (scope_parameters c)
+  pub of_scope : (c : Contents) → AreOf (own_names c) (scope_parameters c)
   of_scope c =
       of_items c.overrides (all_later c) (with_parameter_meanings s outer c.overrides (all_later c) [] c.parameters)
       (parameter_names c.parameters) c.items
@@ -147,17 +146,17 @@ found_before (n ∷ ns) ms text e = by (bytes_eq text n.0) (found_before ns ms t
     by true f e = e
     by false f e = f e
 
-module _ (s : Scope) (outer : List Names) (c : Contents) (text : List ℕ) where
+module _ (s : Scope) (before outer : List Names) (c : Contents) (text : List ℕ) where
   -- a parameter of the scope means a parameter in it
   pub parameter_found : contains_name (scope_parameters c) text ≡ true
-      → is_parameter (meaning_of (scope_meanings s outer c) text) ≡ true
+      → is_parameter (meaning_of (scope_meanings s before outer c) text) ≡ true
   parameter_found e =
-      let own = own_names s outer c in
+      let own = own_names s before c in
       let around : List Names = (own ++ all_later c) ∷ outer in
       let ports = port_meanings s outer around c.ports in
       let objects = items_meanings s outer around c.items in
       let values = map (λ (x : List ℕ × Const). (x.0, constant x.1 true)) s.constants in
-      let h : AreOf own (scope_parameters c) = of_scope s outer c in
+      let h : AreOf own (scope_parameters c) = of_scope s before c in
       found_before (own ++ ports ++ objects) values text (found_before (own ++ ports) objects text
       (found_before own ports text
       (found_among own h.all text (ap (λ l. contains_name l text) h.named ∙ e))))

@@ -8,7 +8,7 @@ use Rattle.vl_mean.specs.Scopes.{Scope}
 use Rattle.vl_mean.specs.Walk.{Contents, Place}
 use Rattle.vl_elab_spec.specs.Meanings.{Meaning, undeclared, constant, loop_variable, object, faulty, shapeless, later}
 use Rattle.vl_elab_spec.specs.Meanings.{Names, is_undeclared, meaning_of, meaning_in, all_meanings, meanings_at}
-use Rattle.vl_elab_spec.specs.Meanings.{scope_meanings}
+use Rattle.vl_elab_spec.specs.Meanings.{reached, scope_meanings}
 use Rattle.vl_elab_scope.specs.Seen.{IsNamed, AreNamed, with_name}
 use Rattle.vl_elab_scope.specs.Alike.{Alike}
 use Rattle.vl_elab_params.specs.Entered.{with_later}
@@ -219,8 +219,9 @@ parameters_mean [] (c ∷ cs) text e = cc
 parameters_mean (s ∷ ss) [] text e = cc
 parameters_mean (s ∷ ss) (c ∷ cs) text e =
     let outer = all_meanings ss cs in
-    is_its_meaning (meaning_of (scope_meanings s outer c) text) (meaning_in outer text)
-    (parameter_found s outer c text e)
+    let before = reached cs c.earlier outer in
+    is_its_meaning (meaning_of (scope_meanings s before outer c) text) (meaning_in outer text)
+    (parameter_found s before outer c text e)
 
 pub passed_reached : (before behind : Names) (names : List Names) (at : Place) (earlier texts : List (List ℕ))
     → Alike names (meanings_at at) → AreReached before behind (meanings_at at) (parameters_at at) earlier

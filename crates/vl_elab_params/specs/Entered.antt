@@ -1,6 +1,6 @@
 -- Between functions: Parameters of a scope as they are entered while a design is judged: what the functions that enter
 -- them promise one another. Rule of this project.
-use Rattle.std.specs.Prelude.{ℕ, List, [], ◌∷◌, ◌++◌, drop, Bool, true, false, ◌&&◌, ◌||◌, is_some, map}
+use Rattle.std.specs.Prelude.{ℕ, List, [], ◌∷◌, ◌++◌, drop, Bool, true, false, ◌&&◌, ◌||◌, map}
 use Rattle.std.specs.Prelude.{Option, Some, None, if◌then◌else◌}
 use Rattle.vl_tree.specs.declared.declaration.HeaderParameter.{HeaderParameter}
 use Rattle.vl_tree.specs.declared.declaration.Parameter.{Parameter}
@@ -8,7 +8,6 @@ use Rattle.vl_tree.specs.declared.declaration.ParameterKind.TheVariants as k
 use Rattle.vl_tree.specs.declared.declaration.Port.{Port}
 use Rattle.vl_tree.specs.declared.declaration.PortKind.{PortKind}
 use Rattle.vl_tree.specs.declared.declaration.PortKind.TheVariants as port
-use Rattle.vl_tree.specs.Expr.{Expr}
 use Rattle.vl_tree.specs.Item.{Item, Items, parameter, no_items, more_items, items}
 use Rattle.vl_mean.specs.declared.const_number.Const.{Const}
 use Rattle.vl_mean.specs.Declarations.{header_parameters}
@@ -16,6 +15,8 @@ use Rattle.vl_mean.specs.Walk.{parameter_names}
 use Rattle.vl_elab_spec.specs.Meanings.{Meaning, constant, faulty, later, Names, is_known_value, is_known_shape}
 use Rattle.vl_elab_spec.specs.Meanings.{may_be_selected, items_names}
 use Rattle.vl_elab_scope.specs.Seen.{innermost, with_name}
+use Rattle.vl_elab_const.specs.declared.given.Value.{Value}
+use Rattle.vl_elab_const.specs.Given.{known_or}
 use Rattle.vl_elab_const.specs.Numbers.{parameter_number}
 
 -- what names mean, and the numbers of constants
@@ -37,10 +38,10 @@ abbrev pub constant_if : Const → Option Bool → Meaning
 constant_if c None = faulty
 constant_if c (Some selected) = constant c selected
 
-module _ (given : List ℕ → Option Expr) where
+module _ (given : List ℕ → Option Value) where
   abbrev pub is_known_parameter : List Names → Parameter → Bool
   is_known_parameter ns x =
-      (is_some (given x.name) || is_known_value ns x.shape.range x.value) && is_known_shape ns x.shape.range
+      known_or (given x.name) (is_known_value ns x.shape.range x.value) && is_known_shape ns x.shape.range
 
   -- whether it may be selected from, where it is known
   abbrev pub selected_if_known : List Names → Parameter → Option Bool
@@ -57,10 +58,10 @@ module _ (given : List ℕ → Option Expr) where
   with_parameters s (x ∷ xs) = with_parameters (with_parameter s x) xs
 
 -- a `localparam` is given nothing
-abbrev pub none_given : List ℕ → Option Expr
+abbrev pub none_given : List ℕ → Option Value
 none_given text = None
 
-module _ (given : List ℕ → Option Expr) where
+module _ (given : List ℕ → Option Value) where
   abbrev pub with_item : Stacks → Item → Stacks
   with_item s (parameter attrs p k.Parameter xs) = with_parameters given s xs
   with_item s (parameter attrs p k.Localparam xs) = with_parameters none_given s xs
@@ -100,6 +101,6 @@ names_behind parameters ports all =
 
 -- ---- the whole: a scope whose names are all behind its parameters, and one for the parameters in it
 
-abbrev pub entered : (List ℕ → Option Expr) → List Parameter → Items → Names → List Names → List Names → Stacks
+abbrev pub entered : (List ℕ → Option Value) → List Parameter → Items → Names → List Names → List Names → Stacks
 entered given parameters all behind around beneath =
     with_items given (with_parameters given (stacks ([] ∷ behind ∷ around) ([] ∷ beneath)) parameters) all

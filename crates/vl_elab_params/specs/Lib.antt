@@ -4,3 +4,4 @@ pub mod Known
 pub mod Own
 pub mod Passed
 pub mod Reached
+pub mod Shadows

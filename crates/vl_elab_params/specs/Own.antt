@@ -13,3 +13,8 @@ pub record AreOwn (own values meant : Names) (cs : Constants) : Type 0 where
   pub there : (text : List ℕ) → is_undeclared (meaning_of meant text) ≡ is_none (constant_of cs text)
   pub value : (text : List ℕ) → value_of (meaning_of values text) ≡ constant_of cs text
   pub only : (text : List ℕ) → is_undeclared (meaning_of values text) ≡ is_none (constant_of cs text)
+
+-- what is kept behind them is what the names of the scope mean there
+pub record AreBehind (behind meant : Names) : Type 0 where
+  pub named : AreNamed behind
+  pub meaning : (text : List ℕ) → meaning_of behind text ≡ meaning_of meant text

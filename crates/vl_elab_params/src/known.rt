@@ -5,7 +5,7 @@ ghost use Rattle.vl_size.specs.Divisors.{larger};
 ghost use Rattle.vl_size.specs.Sign.{sign};
 ghost use Rattle.vl_size.specs.Size.{size};
 ghost use Rattle.vl_elab_spec.specs.Meanings as meanings;
-ghost use Rattle.vl_elab_const.specs.Given.{value_given};
+ghost use Rattle.vl_elab_const.specs.Given.{known_or, value_given};
 ghost use Rattle.vl_elab_params.specs.Entered as spec;
 ghost use Rattle.vl_elab_params.specs.Known as known;
 
@@ -93,6 +93,25 @@ fn may_be_selected(extent: Extent) -> bool
     0 <= extent.left && extent.right <= 0 && 0 <= extent.right
 }
 
+/// A value that is given counts in place of the parameter's own.
+fn is_known_or(
+    alloc: Global,
+    parameter: &Parameter,
+    bits: u32,
+    given: &Given,
+    names: &Names,
+) -> Result<bool, Memory>
+    requires few { bits ≤ 128 }
+    requires bits { bits ≡ meanings.declared_width names.now parameter.now.shape.range }
+    ensures { IfOk result (λ b. b ≡ known_or (value_given given.now parameter.now.name)
+        (meanings.is_known_value names.now parameter.now.shape.range parameter.now.value)) }
+{
+    match given.get(&parameter.name) {
+        Some(value) => Ok(value.has_value),
+        None => is_known_value(alloc, parameter, bits, names),
+    }
+}
+
 fn with_extent(
     alloc: Global,
     parameter: &Parameter,
@@ -103,16 +122,12 @@ fn with_extent(
     requires { known.known_extent names.now parameter.now.shape.range ≡ Some extent }
     ensures { IfOk result (λ o. o ≡ spec.selected_if_known (value_given given.now) names.now parameter.now) }
 {
-    let selected = may_be_selected(extent);
-    if given.get(&parameter.name).is_some() {
-        return Ok(Some(selected));
-    }
-    let known = is_known_value(alloc, parameter, extent.bits, names)?;
-    Ok(if_known(known, selected))
+    let known = is_known_or(alloc, parameter, extent.bits, given, names)?;
+    Ok(if_known(known, may_be_selected(extent)))
 }
 
 /// Whether a parameter may be selected from. None exactly where its value or its range isn't known; a value that is
-/// given is judged at the instance.
+/// given is known where it has one, and judged at the instance.
 pub(crate) fn selected_if_known(
     alloc: Global,
     parameter: &Parameter,

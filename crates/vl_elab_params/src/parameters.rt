@@ -3,14 +3,14 @@ ghost use Rattle.std.specs.Prelude.{◌≡◌, ◌∷◌, [], ℕ, List, None, O
 ghost use Rattle.vl_tree.specs.Item.{items};
 ghost use Rattle.vl_mean.specs.Declarations.{header_parameters, with_constants, Overrides};
 ghost use Rattle.vl_mean.specs.Scopes.{Scope};
-ghost use Rattle.vl_elab_spec.specs.Meanings.{Names as Scoped};
+ghost use Rattle.vl_elab_spec.specs.Meanings.{Names as Scoped, all_later};
 ghost use Rattle.vl_elab_scope.specs.Seen.{seen, innermost, IsNamed};
 ghost use Rattle.vl_elab_scope.specs.Alike.{Alike};
 ghost use Rattle.vl_elab_const.specs.Given.{value_given, IsGiven};
 ghost use Rattle.vl_elab_const.specs.Numbers.{HaveNumbers};
 ghost use Rattle.vl_elab_params.specs.Among as among;
 ghost use Rattle.vl_elab_params.specs.Entered as spec;
-ghost use Rattle.vl_elab_params.specs.Own.{AreOwn};
+ghost use Rattle.vl_elab_params.specs.Own.{AreBehind, AreOwn};
 
 use crate::behind::names_behind;
 use crate::known::selected_if_known;
@@ -214,11 +214,13 @@ pub fn enter_parameters(
 ) -> Result<(), Memory>
     ensures around { OnOk result (drop 2 names.new ≡ names.old) }
     ensures beneath { OnOk result (drop 1 numbers.new ≡ numbers.old) }
+    ensures behind { OnOk result ((os : Overrides) → AreBehind (innermost (drop 1 names.new))
+        (all_later (among.contents os parameters.now ports.now all.now))) }
     ensures names { OnOk result ((s : Scope) (outer : List Scoped) (ss : List Scope) (os : Overrides)
         → IsGiven (value_given given.now) os → Alike names.old outer → HaveNumbers numbers.old ss
         → s.constants ≡ among.constants_of ss (among.contents os parameters.now ports.now all.now)
         → Alike names.new
-        (among.among_parameters s outer (among.contents os parameters.now ports.now all.now))) }
+        (among.among_parameters s outer outer (among.contents os parameters.now ports.now all.now))) }
     ensures numbers { OnOk result ((s : Scope) (outer : List Scoped) (ss : List Scope) (os : Overrides)
         → IsGiven (value_given given.now) os → Alike names.old outer → HaveNumbers numbers.old ss
         → s.constants ≡ among.constants_of ss (among.contents os parameters.now ports.now all.now)

@@ -1,11 +1,12 @@
-//! Parameters of a scope, as far as the walk has come.
+//! Parameters of a scope and of the scopes around, as far as the walk has come.
 ghost use Rattle.std.specs.Prelude.{◌≡◌, ◌∷◌, ◌++◌, [], ℕ, List, IfOk, OnOk};
 ghost use Rattle.vl_tree.specs.Item.{items};
 ghost use Rattle.vl_mean.specs.Declarations.{header_parameters, names_of};
 ghost use Rattle.vl_mean.specs.Walk.{Place, parameter_names};
 ghost use Rattle.vl_elab_spec.specs.Meanings as meanings;
-ghost use Rattle.vl_elab_spec.specs.Meanings.{meanings_at, meanings_before, parameters_of};
+ghost use Rattle.vl_elab_spec.specs.Meanings.{meanings_at, parameters_of};
 ghost use Rattle.vl_elab_scope.specs.Alike.{Alike};
+ghost use Rattle.vl_elab_scope.specs.Seen.{AllNamed};
 ghost use Rattle.vl_elab_params.specs.declared.reached.Reached.{Reached};
 ghost use Rattle.vl_elab_params.specs.Reached as spec;
 
@@ -59,22 +60,23 @@ impl Reached {
         pass_item(alloc, item, &self.pending, names, &mut self.passed)
     }
 
-    /// In place of what names mean in the scope what they mean in the value of a parameter, till `leave`.
-    pub fn enter(&mut self, alloc: Global, names: &mut Names) -> Result<(), Memory>
-        ensures names { OnOk result (names.new ≡ spec.over self.old names.old) }
-        ensures alike { OnOk result ((at : Place) (earlier : List (List ℕ)) → Alike names.old (meanings_at at)
-            → spec.IsReached self.old at earlier → Alike names.new (meanings_before at earlier)) }
+    /// Gives what it says of the scope's parameters to what is said of those of the scopes around, till `take_back`.
+    pub fn hand_over(&mut self, alloc: Global, around: &mut Names) -> Result<(), Memory>
+        ensures names { OnOk result (around.new ≡ spec.over self.old around.old) }
+        ensures before { OnOk result ((at : Place) (earlier : List (List ℕ)) → AllNamed (meanings_at at)
+            → spec.IsReached self.old at earlier → spec.AreAround around.old at
+            → spec.AreBefore around.new at earlier) }
     {
-        names.enter(mem::replace(&mut self.pending, Level::new(alloc)))?;
-        names.enter(mem::replace(&mut self.passed, Level::new(alloc)))
+        around.enter(mem::replace(&mut self.pending, Level::new(alloc)))?;
+        around.enter(mem::replace(&mut self.passed, Level::new(alloc)))
     }
 
-    /// What names mean in the scope again.
-    pub fn leave(&mut self, alloc: Global, names: &mut Names)
-        ensures { (reached : Reached) (outer : List meanings.Names) → names.old ≡ spec.over reached outer
-            → (self.new ≡ reached) × (names.new ≡ outer) }
+    /// Takes it back from there.
+    pub fn take_back(&mut self, alloc: Global, around: &mut Names)
+        ensures { (reached : Reached) (outer : List meanings.Names) → around.old ≡ spec.over reached outer
+            → (self.new ≡ reached) × (around.new ≡ outer) }
     {
-        self.passed = names.take(alloc);
-        self.pending = names.take(alloc);
+        self.passed = around.take(alloc);
+        self.pending = around.take(alloc);
     }
 }

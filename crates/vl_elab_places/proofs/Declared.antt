@@ -6,6 +6,7 @@ use Rattle.vl_tree.specs.declared.declaration.Parameter.{Parameter}
 use Rattle.vl_tree.specs.declared.declaration.Range.{Range}
 use Rattle.vl_tree.specs.declared.item.Block as declared
 use Rattle.vl_tree.specs.declared.item.ItemKind.TheVariants as k
+use Rattle.vl_tree.specs.declared.item.RegionMark.TheVariants as mark
 use Rattle.vl_tree.specs.declared.part.Assignment.{Assignment}
 use Rattle.vl_tree.specs.Attributes.{Attributes}
 use Rattle.vl_tree.specs.Expr.{Expr}
@@ -16,7 +17,7 @@ use Rattle.vl_elab_spec.specs.NodePlaces.{assignment_places, declared_places, ex
 use Rattle.vl_elab_spec.specs.NodePlaces.{parameter_places, range_places, target_places, value_places}
 use Rattle.vl_elab_places.specs.declared.cursor.Cursor.{Cursor}
 use Rattle.vl_elab_places.specs.Passing.{assignments_passed, declared_passed, expr_passed, moved, own_passed}
-use Rattle.vl_elab_places.specs.Passing.{parameters_passed, passed, range_passed, target_passed, texts_passed}
+use Rattle.vl_elab_places.specs.Passing.{parameters_passed, passed, range_passed, target_passed}
 use Rattle.vl_elab_places.specs.Passing.{value_passed}
 use Rattle.vl_elab_places.proofs.Moved.{both_pass}
 use Rattle.vl_elab_places.proofs.Nodes.{expr_passes, stmt_passes, target_passes}
@@ -55,22 +56,19 @@ assignments_pass (x ∷ xs) c =
     (both_pass (target_passed x.target) (expr_passed x.value) (target_places x.target) (expr_places x.value)
     (target_passes x.target) (expr_passes x.value)) (λ k. assignments_pass xs k) c
 
-texts_pass : (xs : List (List ℕ)) (p : Pos) (c : Cursor) → texts_passed xs p c ≡ passed (map (λ text. p) xs) c
-texts_pass [] p c = refl
-texts_pass (x ∷ xs) p c = texts_pass xs p (moved 1 p c)
-
 pub own_passes : (x : Item) (c : Cursor) → own_passed x c ≡ passed (own_places x) c
 own_passes (declaration attrs p d) c =
     both_pass (range_passed d.shape.range) (declared_passed d.names) (range_places d.shape.range)
     (declared_places d.names) (range_passes d.shape.range) (declared_passes d.names) (moved 1 p c)
 own_passes (integer attrs p xs) c = declared_passes xs (moved 1 p c)
-own_passes (genvar attrs p xs) c = texts_pass xs p (moved 1 p c)
+own_passes (genvar attrs p xs) c = refl
 own_passes (parameter attrs p kind xs) c = parameters_pass xs (moved 1 p c)
 own_passes (assign attrs p xs) c = assignments_pass xs (moved 1 p c)
 own_passes (always attrs p event s) c = stmt_passes s (moved 1 p c)
 own_passes (initial attrs p s) c = stmt_passes s (moved 1 p c)
 own_passes (instance attrs p x) c = refl
-own_passes (generate attrs p mark) c = refl
+own_passes (generate attrs p mark.Open) c = refl
+own_passes (generate attrs p mark.Close) c = refl
 own_passes (for_loop attrs p head b) c = expr_passes head.start (moved 1 p c)
 own_passes (if_only attrs p e b) c = expr_passes e (moved 1 p c)
 own_passes (if_else attrs p e b d) c = expr_passes e (moved 1 p c)

@@ -2,33 +2,32 @@
 use Rattle.std.specs.Prelude.{◌≡◌, refl, ℕ, suc, ◌-◌, ◌<◌, List, Bool, true, false, Option, Some, None}
 use Rattle.std.specs.Prelude.{if◌then◌else◌}
 use Rattle.std.proofs.Common.{ap, sym, ◌∙◌, arith}
-use Rattle.fv_text.specs.declared.pos.Pos.{Pos}
 use Rattle.vl_tree.specs.declared.part.LoopHead.{LoopHead}
 use Rattle.vl_mean.specs.declared.const_number.Const.{Const}
 use Rattle.vl_elab_spec.specs.Meanings.{Names}
 use Rattle.vl_elab_const.specs.Numbers.{holds, genvar_number}
 use Rattle.vl_elab_check_item.specs.TurnParts.{in_turn}
 use Rattle.vl_elab_places.specs.declared.cursor.Cursor.{Cursor}
-use Rattle.vl_elab_places.specs.Passing.{expr_passed, moved, turns_passed}
+use Rattle.vl_elab_places.specs.Passing.{expr_passed, turns_passed}
 
-module _ (ns : List Names) (head : LoopHead) (p : Pos) where
+module _ (ns : List Names) (head : LoopHead) where
   abbrev goes : Const → Bool
   goes value = holds (in_turn head.variable value ns) head.condition
 
   abbrev next : Const → Const
   next value = genvar_number (in_turn head.variable value ns) head.next
 
-  -- behind its condition, its block and its step
+  -- behind its condition and its step
   abbrev behind : Cursor → Cursor
-  behind c = expr_passed head.next (moved 1 p (expr_passed head.condition c))
+  behind c = expr_passed head.next (expr_passed head.condition c)
 
   abbrev by_test : ℕ → Const → Cursor → Bool → Cursor
   by_test n value c b =
-      if b then turns_passed n ns head p (next value) (behind c) else expr_passed head.condition c
+      if b then turns_passed n ns head (next value) (behind c) else expr_passed head.condition c
 
   one_turn : (n : ℕ) (value : Const) (c : Cursor) → 0 < n
-      → by_test (n - 1) value c (goes value) ≡ turns_passed n ns head p value c
-  one_turn n value c positive = ap (λ k. turns_passed k ns head p value c) (sym same)
+      → by_test (n - 1) value c (goes value) ≡ turns_passed n ns head value c
+  one_turn n value c positive = ap (λ k. turns_passed k ns head value c) (sym same)
     where
       same : n ≡ suc (n - 1)
       same = omega (arith, positive)
@@ -50,17 +49,17 @@ module _ (ns : List Names) (head : LoopHead) (p : Pos) where
 
   pub turns_stop : (n : ℕ) (value : Const) (o : Option Const) (c : Cursor) → 0 < n
       → o ≡ (if goes value then Some (next value) else None) → o ≡ None
-      → expr_passed head.condition c ≡ turns_passed n ns head p value c
+      → expr_passed head.condition c ≡ turns_passed n ns head value c
   turns_stop n value o c positive chosen gone =
       ap (by_test (n - 1) value c) (sym (stops value o (goes value) chosen gone)) ∙ one_turn n value c positive
 
   pub turns_on : (n : ℕ) (value v : Const) (o : Option Const) (c : Cursor) → 0 < n
       → o ≡ (if goes value then Some (next value) else None) → o ≡ Some v
-      → turns_passed (n - 1) ns head p v (behind c) ≡ turns_passed n ns head p value c
+      → turns_passed (n - 1) ns head v (behind c) ≡ turns_passed n ns head value c
   turns_on n value v o c positive chosen some =
-      ap (λ w. turns_passed (n - 1) ns head p w (behind c)) (same_next value o v (goes value) chosen some)
+      ap (λ w. turns_passed (n - 1) ns head w (behind c)) (same_next value o v (goes value) chosen some)
       ∙ ap (by_test (n - 1) value c) (sym (leads value o v (goes value) chosen some)) ∙ one_turn n value c positive
 
   pub turns_gone : (n : ℕ) (value : Const) (c : Cursor) → n ≡ 0
-      → expr_passed head.condition c ≡ turns_passed n ns head p value c
-  turns_gone n value c none = ap (λ k. turns_passed k ns head p value c) (sym none)
+      → expr_passed head.condition c ≡ turns_passed n ns head value c
+  turns_gone n value c none = ap (λ k. turns_passed k ns head value c) (sym none)

@@ -1,10 +1,12 @@
 -- Where a step is judged: at the node, or the name, that is one too many, or where it stands.
-use Rattle.std.specs.Prelude.{◌≡◌, ℕ, ◌-◌, List, Bool, true, false, slice_get, Option, None, if◌then◌else◌}
+use Rattle.std.specs.Prelude.{◌≡◌, refl, ℕ, zero, suc, ◌-◌, List, [], ◌∷◌, Bool, true, false, slice_get, Option, None}
+use Rattle.std.specs.Prelude.{if◌then◌else◌}
 use Rattle.std.proofs.Common.{ap, sym, ◌∙◌}
 use Rattle.fv_text.specs.declared.pos.Pos.{Pos}
+use Rattle.vl_tree.specs.Item.{Block}
 use Rattle.vl_size.specs.Places.{earlier_place}
-use Rattle.vl_mean.specs.Walk.{Step}
-use Rattle.vl_elab_spec.specs.Counts.{step_pos}
+use Rattle.vl_mean.specs.Walk.{Place, Step, block_step}
+use Rattle.vl_elab_spec.specs.Counts.{block_pos, step_pos}
 use Rattle.vl_elab_spec.specs.NodePlaces.{name_place, node_places}
 use Rattle.vl_elab_spec.specs.Refused.{Totals, counted, is_too_large, large_pos, pos_or}
 use Rattle.vl_elab_places.specs.declared.cursor.Cursor.{Cursor}
@@ -34,3 +36,18 @@ pub judged_small : (x : Step) (t : Totals) (p : Pos) (b : Bool) → b ≡ is_too
     → p ≡ step_pos x → p ≡ judged_pos t x
 judged_small x t p b same fits place =
     place ∙ ap (λ test. if test then large_pos t x else step_pos x) (sym fits ∙ same)
+
+-- a block stands at its only node
+pub block_judged : (t : Totals) (at : Place) (b : Block) → block_pos b ≡ judged_pos t (block_step at b)
+block_judged t at b =
+    by (is_too_large (counted t (block_step at b)))
+    ∙ ap (λ q. if is_too_large (counted t (block_step at b)) then q else block_pos b)
+    (sym (only (4000000 - t.nodes) (block_pos b)))
+  where
+    only : (k : ℕ) (p : Pos) → pos_or p (earlier_place (slice_get (p ∷ []) k) None) ≡ p
+    only zero p = refl
+    only (suc k) p = refl
+
+    by : (c : Bool) → block_pos b ≡ (if c then block_pos b else block_pos b)
+    by true = refl
+    by false = refl

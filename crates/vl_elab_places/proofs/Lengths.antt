@@ -1,11 +1,12 @@
 -- There are as many places as nodes.
-use Rattle.std.specs.Prelude.{◌≡◌, refl, ℕ, zero, suc, ◌+◌, List, [], ◌∷◌, ◌++◌, length, map, Bool, true, false, ◌&&◌}
+use Rattle.std.specs.Prelude.{◌≡◌, refl, ℕ, zero, suc, ◌+◌, List, [], ◌∷◌, ◌++◌, length, Bool, true, false, ◌&&◌}
 use Rattle.std.specs.Prelude.{Option, Some, None, if◌then◌else◌}
 use Rattle.std.proofs.Common.{◌∙◌, arith}
 use Rattle.fv_text.specs.declared.pos.Pos.{Pos}
 use Rattle.vl_tree.specs.declared.declaration.DeclaredName.{DeclaredName}
 use Rattle.vl_tree.specs.declared.declaration.Parameter.{Parameter}
 use Rattle.vl_tree.specs.declared.declaration.Range.{Range}
+use Rattle.vl_tree.specs.declared.item.RegionMark.TheVariants as mark
 use Rattle.vl_tree.specs.declared.part.Assignment.{Assignment}
 use Rattle.vl_tree.specs.declared.part.LoopHead.{LoopHead}
 use Rattle.vl_tree.specs.Expr.{Expr, Exprs, Selects, number, name, paren, unary, binary, conditional, concat, repeat}
@@ -16,14 +17,11 @@ use Rattle.vl_tree.specs.Item.{for_loop}
 use Rattle.vl_tree.specs.Lval.{Lval, Lvals, named, joined, no_lvals, more_lvals}
 use Rattle.vl_tree.specs.Stmt.{Stmt, Stmts, Arms, begin, if_only, if_else, case, assign, assume, empty, no_stmts}
 use Rattle.vl_tree.specs.Stmt.{more_stmts, no_arms, labels, default}
-use Rattle.vl_size.specs.Size.{is_true}
 use Rattle.vl_mean.specs.declared.const_number.Const.{Const}
-use Rattle.vl_mean.specs.Constants.{constant_operand}
 use Rattle.vl_mean.specs.FlatLaw.{all_nodes, all_stmt_nodes, all_target_nodes, arm_nodes, label_nodes, nodes}
 use Rattle.vl_mean.specs.FlatLaw.{select_nodes, stmt_nodes, target_nodes}
-use Rattle.vl_mean.specs.Scopes.{constant_in}
-use Rattle.vl_mean.specs.Walk.{Place, Step, header, port, item, override, connection, goes_on, next_turn, first_turn}
-use Rattle.vl_mean.specs.Walk.{turn_place}
+use Rattle.vl_mean.specs.Walk.{Place, Step, header, port, item, override, connection, block_step, goes_on, next_turn}
+use Rattle.vl_mean.specs.Walk.{first_turn, turn_place}
 use Rattle.vl_elab_spec.specs.Counts.{assignment_nodes, item_nodes, loop_nodes, name_nodes, one_turn_nodes}
 use Rattle.vl_elab_spec.specs.Counts.{parameter_nodes, range_nodes, step_nodes, turn_nodes, value_nodes}
 use Rattle.vl_elab_spec.specs.Items.{is_valued}
@@ -31,7 +29,7 @@ use Rattle.vl_elab_spec.specs.NodePlaces.{all_places, all_stmt_places, all_targe
 use Rattle.vl_elab_spec.specs.NodePlaces.{assignment_places, declared_places, expr_places, inner_places, label_places}
 use Rattle.vl_elab_spec.specs.NodePlaces.{loop_places, node_places, one_turn_places, own_places, parameter_places}
 use Rattle.vl_elab_spec.specs.NodePlaces.{range_places, select_places, stmt_places, target_places, turn_places}
-use Rattle.vl_elab_spec.specs.NodePlaces.{block_pos, value_places}
+use Rattle.vl_elab_spec.specs.NodePlaces.{value_places}
 
 -- lists one behind the other
 join : (xs ys : List Pos) → length (xs ++ ys) ≡ length xs + length ys
@@ -170,64 +168,50 @@ assignments_length (x ∷ xs) =
     three (target_places x.target) (expr_places x.value) (assignment_places xs) (target_nodes x.target) (nodes x.value)
     (assignment_nodes xs) (target_length x.target) (expr_length x.value) (assignments_length xs)
 
-texts_length : (xs : List (List ℕ)) (p : Pos) → length (map (λ text. p) xs) ≡ length xs
-texts_length [] p = refl
-texts_length (x ∷ xs) p = let rest : length (map (λ text. p) xs) ≡ length xs = texts_length xs p in omega (arith, rest)
-
 -- ---- turns
 
-module _ (head : LoopHead) (b : Pos) where
+module _ (head : LoopHead) where
   turn_and_more : (rest : List Pos) (n : ℕ) → length rest ≡ n → (t : Bool)
-      → length (expr_places head.condition ++ (if t then b ∷ expr_places head.next ++ rest else []))
-      ≡ nodes head.condition + (if t then nodes head.next + 1 + n else 0)
+      → length (expr_places head.condition ++ (if t then expr_places head.next ++ rest else []))
+      ≡ nodes head.condition + (if t then nodes head.next + n else 0)
   turn_and_more rest n h true =
-      two (expr_places head.condition) (b ∷ expr_places head.next ++ rest) (nodes head.condition)
-      (nodes head.next + 1 + n) (expr_length head.condition) all
-    where
-      both : length (expr_places head.next ++ rest) ≡ nodes head.next + n
-      both = two (expr_places head.next) rest (nodes head.next) n (expr_length head.next) h
-
-      all : length (b ∷ expr_places head.next ++ rest) ≡ nodes head.next + 1 + n
-      all = omega (arith, both)
+      two (expr_places head.condition) (expr_places head.next ++ rest) (nodes head.condition) (nodes head.next + n)
+      (expr_length head.condition) (two (expr_places head.next) rest (nodes head.next) n (expr_length head.next) h)
   turn_and_more rest n h false =
       two (expr_places head.condition) [] (nodes head.condition) 0 (expr_length head.condition) refl
 
   turn_alone : (t : Bool)
-      → length (expr_places head.condition ++ (if t then b ∷ expr_places head.next else []))
-      ≡ nodes head.condition + (if t then nodes head.next + 1 else 0)
+      → length (expr_places head.condition ++ (if t then expr_places head.next else []))
+      ≡ nodes head.condition + (if t then nodes head.next else 0)
   turn_alone true =
-      two (expr_places head.condition) (b ∷ expr_places head.next) (nodes head.condition) (nodes head.next + 1)
-      (expr_length head.condition) (after b (expr_places head.next) (nodes head.next) (expr_length head.next))
+      two (expr_places head.condition) (expr_places head.next) (nodes head.condition) (nodes head.next)
+      (expr_length head.condition) (expr_length head.next)
   turn_alone false =
       two (expr_places head.condition) [] (nodes head.condition) 0 (expr_length head.condition) refl
 
   module _ (at : Place) where
-    turns_length : (n : ℕ) (c : Const) → length (turn_places n head b at c) ≡ turn_nodes n head at c
+    turns_length : (n : ℕ) (c : Const) → length (turn_places n head at c) ≡ turn_nodes n head at c
     turns_length zero c = expr_length head.condition
     turns_length (suc n) c =
-        turn_and_more (turn_places n head b at (next_turn head at.scopes c)) (turn_nodes n head at (next_turn head at.scopes c))
+        turn_and_more (turn_places n head at (next_turn head at.scopes c)) (turn_nodes n head at (next_turn head at.scopes c))
         (turns_length n (next_turn head at.scopes c)) (goes_on head at.scopes c)
 
     by_values : (turns further : Bool)
-        → length (if turns then (if further then turn_places 4096 head b at (first_turn head at.scopes)
-        else one_turn_places head b at (first_turn head at.scopes)) else expr_places head.condition)
+        → length (if turns then (if further then turn_places 4096 head at (first_turn head at.scopes)
+        else one_turn_places head at (first_turn head at.scopes)) else expr_places head.condition)
         ≡ (if turns then (if further then turn_nodes 4096 head at (first_turn head at.scopes)
         else one_turn_nodes head at (first_turn head at.scopes)) else nodes head.condition)
     by_values true true = turns_length 4096 (first_turn head at.scopes)
     by_values true false = turn_alone (goes_on head at.scopes (first_turn head at.scopes))
     by_values false further = expr_length head.condition
 
-    loop_length : length (loop_places head b at) ≡ loop_nodes head at
+    loop_length : length (loop_places head at) ≡ loop_nodes head at
     loop_length =
         by_values (is_valued at head.start
         && is_valued (turn_place at head.variable (first_turn head at.scopes)) head.condition)
         (is_valued (turn_place at head.variable (first_turn head at.scopes)) head.next)
 
 -- ---- steps
-
-only_block : (t : Bool) (p : Pos) → length (if t then p ∷ [] else []) ≡ (if t then 1 else 0)
-only_block true p = refl
-only_block false p = refl
 
 none_more : (xs : List Pos) (n : ℕ) → length xs ≡ n → length (xs ++ []) ≡ n
 none_more xs n h = let all : length (xs ++ []) ≡ n + 0 = two xs [] n 0 h refl in omega (arith, all)
@@ -242,33 +226,26 @@ item_length at (declaration attrs p d) =
     (two (range_places d.shape.range) (declared_places d.names) (range_nodes d.shape.range) (name_nodes d.names)
     (range_length d.shape.range) (names_length d.names))
 item_length at (integer attrs p xs) = own p (declared_places xs) (name_nodes xs) (names_length xs)
-item_length at (genvar attrs p xs) = own p (map (λ text. p) xs) (length xs) (texts_length xs p)
+item_length at (genvar attrs p xs) = refl
 item_length at (parameter attrs p kind xs) = own p (parameter_places xs) (parameter_nodes xs) (parameters_length xs)
 item_length at (tree.assign attrs p xs) = own p (assignment_places xs) (assignment_nodes xs) (assignments_length xs)
 item_length at (always attrs p event s) = own p (stmt_places s) (stmt_nodes s) (stmt_length s)
 item_length at (initial attrs p s) = own p (stmt_places s) (stmt_nodes s) (stmt_length s)
 item_length at (instance attrs p x) = refl
-item_length at (generate attrs p mark) = refl
+item_length at (generate attrs p mark.Open) = refl
+item_length at (generate attrs p mark.Close) = refl
 item_length at (for_loop attrs p head b) =
     let start : length (p ∷ expr_places head.start) ≡ nodes head.start + 1 =
     after p (expr_places head.start) (nodes head.start) (expr_length head.start) in
-    let all : length ((p ∷ expr_places head.start) ++ loop_places head (block_pos b) at)
-    ≡ nodes head.start + 1 + loop_nodes head at =
-    two (p ∷ expr_places head.start) (loop_places head (block_pos b) at) (nodes head.start + 1) (loop_nodes head at)
-    start (loop_length head (block_pos b) at) in
+    let all : length ((p ∷ expr_places head.start) ++ loop_places head at) ≡ nodes head.start + 1 + loop_nodes head at =
+    two (p ∷ expr_places head.start) (loop_places head at) (nodes head.start + 1) (loop_nodes head at) start
+    (loop_length head at) in
     all ∙ swap (nodes head.start) (loop_nodes head at)
   where
     swap : (m n : ℕ) → m + 1 + n ≡ m + n + 1
     swap m n = omega arith
-item_length at (tree.if_only attrs p c b) =
-    let t : Bool = is_valued at c && is_true (constant_operand (constant_in at.scopes) c) in
-    two (p ∷ expr_places c) (if t then block_pos b ∷ [] else []) (nodes c + 1) (if t then 1 else 0)
-    (after p (expr_places c) (nodes c) (expr_length c)) (only_block t (block_pos b))
-item_length at (tree.if_else attrs p c b d) =
-    let t : Bool = is_valued at c in
-    let chosen : Pos = if is_true (constant_operand (constant_in at.scopes) c) then block_pos b else block_pos d in
-    two (p ∷ expr_places c) (if t then chosen ∷ [] else []) (nodes c + 1) (if t then 1 else 0)
-    (after p (expr_places c) (nodes c) (expr_length c)) (only_block t chosen)
+item_length at (tree.if_only attrs p c b) = own p (expr_places c) (nodes c) (expr_length c)
+item_length at (tree.if_else attrs p c b d) = own p (expr_places c) (nodes c) (expr_length c)
 
 pub step_length : (x : Step) → length (node_places x) ≡ step_nodes x
 step_length (header at x) = parameters_length (x ∷ [])
@@ -280,3 +257,4 @@ step_length (item at x) = item_length at x
 step_length (override at m u given x) = after x.pos (value_places x.value) (value_nodes x.value) (value_length x.value)
 step_length (connection at m u inside given x) =
     after x.pos (value_places x.value) (value_nodes x.value) (value_length x.value)
+step_length (block_step at b) = refl

@@ -6,6 +6,8 @@ use Rattle.fv_text.specs.declared.pos.Pos.{Pos}
 use Rattle.vl_tree.specs.declared.declaration.DeclaredName.{DeclaredName}
 use Rattle.vl_tree.specs.declared.declaration.Parameter.{Parameter}
 use Rattle.vl_tree.specs.declared.declaration.Range.{Range}
+use Rattle.vl_tree.specs.declared.item.RegionMark.{RegionMark}
+use Rattle.vl_tree.specs.declared.item.RegionMark.TheVariants as mark
 use Rattle.vl_tree.specs.declared.part.Assignment.{Assignment}
 use Rattle.vl_tree.specs.declared.part.LoopHead.{LoopHead}
 use Rattle.vl_tree.specs.Expr.{
@@ -28,7 +30,6 @@ use Rattle.vl_tree.specs.Expr.{
   part,
   indexed,
 }
-use Rattle.vl_tree.specs.declared.item.Block as declared
 use Rattle.vl_tree.specs.Item as tree
 use Rattle.vl_tree.specs.Item.{
   Item,
@@ -42,7 +43,6 @@ use Rattle.vl_tree.specs.Item.{
   generate,
   for_loop,
 }
-use Rattle.vl_tree.specs.ItemView.{block}
 use Rattle.vl_tree.specs.Lval.{Lval, Lvals, named, joined, no_lvals, more_lvals}
 use Rattle.vl_tree.specs.Stmt.{Stmt, Stmts, Arms, begin, if_only, if_else, case, assign, assume, empty, no_stmts}
 use Rattle.vl_tree.specs.Stmt.{more_stmts, no_arms, labels, default}
@@ -50,7 +50,6 @@ use Rattle.vl_mean.specs.declared.const_number.Const.{Const}
 use Rattle.vl_mean.specs.ConstantFaults.{capped}
 use Rattle.vl_mean.specs.Walk.{most_turns}
 use Rattle.vl_elab_spec.specs.Meanings.{Names}
-use Rattle.vl_elab_spec.specs.NodePlaces.{block_pos}
 use Rattle.vl_elab_const.specs.Numbers.{holds, genvar_number}
 use Rattle.vl_elab_check_item.specs.declared.reach.HeadValues.{HeadValues}
 use Rattle.vl_elab_check_item.specs.TurnParts.{in_turn}
@@ -150,68 +149,53 @@ abbrev pub assignments_passed : List Assignment → Cursor → Cursor
 assignments_passed [] c = c
 assignments_passed (x ∷ xs) c = assignments_passed xs (expr_passed x.value (target_passed x.target c))
 
--- names that stand at one place
-abbrev pub texts_passed : List (List ℕ) → Pos → Cursor → Cursor
-texts_passed [] p c = c
-texts_passed (text ∷ texts) p c = texts_passed texts p (moved 1 p c)
-
 -- ---- items
 
--- without what its turns and its chosen block add
+-- of a generate region only its beginning
+abbrev pub mark_passed : RegionMark → Pos → Cursor → Cursor
+mark_passed mark.Open p c = moved 1 p c
+mark_passed mark.Close p c = c
+
+-- without what its turns add
 abbrev pub own_passed : Item → Cursor → Cursor
 own_passed (declaration attrs p d) c = declared_passed d.names (range_passed d.shape.range (moved 1 p c))
 own_passed (integer attrs p xs) c = declared_passed xs (moved 1 p c)
-own_passed (genvar attrs p xs) c = texts_passed xs p (moved 1 p c)
+own_passed (genvar attrs p xs) c = moved 1 p c
 own_passed (parameter attrs p kind xs) c = parameters_passed xs (moved 1 p c)
 own_passed (tree.assign attrs p xs) c = assignments_passed xs (moved 1 p c)
 own_passed (always attrs p event s) c = stmt_passed s (moved 1 p c)
 own_passed (initial attrs p s) c = stmt_passed s (moved 1 p c)
 own_passed (instance attrs p x) c = moved 1 p c
-own_passed (generate attrs p mark) c = moved 1 p c
+own_passed (generate attrs p m) c = mark_passed m p c
 own_passed (for_loop attrs p head b) c = expr_passed head.start (moved 1 p c)
 own_passed (tree.if_only attrs p e b) c = expr_passed e (moved 1 p c)
 own_passed (tree.if_else attrs p e b d) c = expr_passed e (moved 1 p c)
 
--- ---- turns over the numbers of constants, with a block at this place
+-- ---- turns over the numbers of constants
 
-abbrev pub turns_passed : ℕ → List Names → LoopHead → Pos → Const → Cursor → Cursor
-turns_passed zero ns head p value c = expr_passed head.condition c
-turns_passed (suc n) ns head p value c =
+abbrev pub turns_passed : ℕ → List Names → LoopHead → Const → Cursor → Cursor
+turns_passed zero ns head value c = expr_passed head.condition c
+turns_passed (suc n) ns head value c =
     let inner = in_turn head.variable value ns in
     let behind = expr_passed head.condition c in
-    let more = turns_passed n ns head p (genvar_number inner head.next) (expr_passed head.next (moved 1 p behind)) in
+    let more = turns_passed n ns head (genvar_number inner head.next) (expr_passed head.next behind) in
     if holds inner head.condition then more else behind
 
 -- the first turn alone
-abbrev pub turn_passed : List Names → LoopHead → Pos → Const → Cursor → Cursor
-turn_passed ns head p value c =
+abbrev pub turn_passed : List Names → LoopHead → Const → Cursor → Cursor
+turn_passed ns head value c =
     let behind = expr_passed head.condition c in
-    if holds (in_turn head.variable value ns) head.condition then expr_passed head.next (moved 1 p behind) else behind
+    if holds (in_turn head.variable value ns) head.condition then expr_passed head.next behind else behind
 
 -- by whether the step has a value
-abbrev pub begun_passed : Bool → List Names → LoopHead → Pos → Cursor → Cursor
-begun_passed further ns head p c =
+abbrev pub begun_passed : Bool → List Names → LoopHead → Cursor → Cursor
+begun_passed further ns head c =
     let first = genvar_number ns head.start in
-    if further then turns_passed most_turns ns head p first c else turn_passed ns head p first c
+    if further then turns_passed most_turns ns head first c else turn_passed ns head first c
 
-abbrev pub loop_passed : HeadValues → List Names → LoopHead → Pos → Cursor → Cursor
-loop_passed values ns head p c =
-    if values.turns then begun_passed values.further ns head p c else expr_passed head.condition c
-
--- ---- the block that is chosen
-
--- that of the `else` stands there
-abbrev pub other_pos : Option declared.Block → Option Pos
-other_pos None = None
-other_pos (Some b) = Some (block_pos (block b))
-
-abbrev pub chosen : Bool → Bool → Pos → Option Pos → Option Pos
-chosen valued holds first second =
-    let other = if holds then Some first else second in if valued then other else None
-
-abbrev pub block_passed : Option Pos → Cursor → Cursor
-block_passed None c = c
-block_passed (Some p) c = moved 1 p c
+abbrev pub loop_passed : HeadValues → List Names → LoopHead → Cursor → Cursor
+loop_passed values ns head c =
+    if values.turns then begun_passed values.further ns head c else expr_passed head.condition c
 
 -- ---- declared names, with the words of memories
 

@@ -5,8 +5,8 @@ ghost use Rattle.vl_elab_places.specs.Passing as spec;
 use crate::cursor::Cursor;
 use crate::exprs::{pass_expr, pass_target};
 use crate::stmts::pass_stmt;
-use fv_text::{Pos, Text};
-use vl_tree::{Assignment, DeclaredName, Expr, Item, ItemKind, Parameter, Range};
+use fv_text::Pos;
+use vl_tree::{Assignment, DeclaredName, Expr, Item, ItemKind, Parameter, Range, RegionMark};
 
 /// Behind a value that may be there.
 pub(crate) fn pass_value(value: &Option<Expr>, start: Cursor) -> Cursor
@@ -87,34 +87,23 @@ fn pass_assignments(all: &[Assignment], start: Cursor) -> Cursor
     at
 }
 
-/// Behind names that stand at one place.
-fn pass_texts(all: &[Text], pos: Pos, start: Cursor) -> Cursor
-    ensures { result ≡ spec.texts_passed all.now pos start }
-{
-    let mut at = start;
-    for text in all {
-        at = at.moved(1, pos);
-    }
-    at
-}
-
-/// Behind an item without what its turns and its chosen block add: of a loop behind its start, of an `if` behind its
-/// condition.
+/// Behind an item without what its turns add: of a loop behind its start, of an `if` behind its condition. A generate
+/// region counts at its beginning.
 pub(crate) fn pass_item(item: &Item, start: Cursor) -> Cursor
     ensures { result ≡ spec.own_passed item.now start }
 {
     let at = start.moved(1, item.pos);
     match &item.kind {
+        ItemKind::Generate(RegionMark::Close) => start,
         ItemKind::Declaration(declaration) => {
             let between = pass_range(&declaration.shape.range, at);
             pass_declared(declaration.names.as_slice(), between)
         }
         ItemKind::Integer(names) => pass_declared(names.as_slice(), at),
-        ItemKind::Genvar(names) => pass_texts(names.as_slice(), item.pos, at),
         ItemKind::Parameter(_, all) => pass_parameters(all.as_slice(), at),
         ItemKind::Assign(all) => pass_assignments(all.as_slice(), at),
         ItemKind::Always(_, stmt) | ItemKind::Initial(stmt) => pass_stmt(stmt, at),
-        ItemKind::Instance(_) | ItemKind::Generate(_) => at,
+        ItemKind::Genvar(_) | ItemKind::Instance(_) | ItemKind::Generate(RegionMark::Open) => at,
         ItemKind::For(head, _) => pass_expr(&head.start, at),
         ItemKind::If(condition, _, _) => pass_expr(condition, at),
     }

@@ -16,4 +16,4 @@ mod stmts;
 mod turns;
 
 pub use law::each_node_has_a_place;
-pub use steps::{given_place, header_place, item_place, port_place};
+pub use steps::{block_place, given_place, header_place, item_place, port_place};

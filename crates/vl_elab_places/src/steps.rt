@@ -2,7 +2,8 @@
 ghost use Rattle.std.specs.Prelude.{◌≡◌, ◌-◌, ◌∷◌, ◌++◌, [], ℕ, Some, None, IfOk, OnOk, drop, nat_lt, if◌then◌else◌};
 ghost use Rattle.vl_size.specs.Places.{earlier_place};
 ghost use Rattle.vl_mean.specs.ConstantFaults.{capped};
-ghost use Rattle.vl_mean.specs.Walk.{Place, Step, item as item_step};
+ghost use Rattle.vl_tree.specs.ItemView.{block as block_of};
+ghost use Rattle.vl_mean.specs.Walk.{Place, Step, block_step, item as item_step};
 ghost use Rattle.vl_elab_spec.specs.Counts.{step_names, step_nodes, step_pos};
 ghost use Rattle.vl_elab_spec.specs.Meanings.{meanings_at};
 ghost use Rattle.vl_elab_spec.specs.NodePlaces as places;
@@ -13,7 +14,7 @@ ghost use Rattle.vl_elab_scope.specs.Seen.{innermost};
 ghost use Rattle.vl_elab_const.specs.Numbers.{HaveNumbers};
 ghost use Rattle.vl_elab_places.specs.Judged as spec;
 
-use crate::blocks::pass_inner;
+use crate::blocks::{block_pos, pass_inner};
 use crate::cursor::Cursor;
 use crate::items::{pass_item, pass_parameter, pass_range, pass_value};
 use crate::names::name_behind;
@@ -23,7 +24,7 @@ use vl_elab_count::Added;
 use vl_elab_scope::Names;
 use vl_elab_spec::Totals;
 use vl_size::earlier::earlier_place;
-use vl_tree::{Expr, Item, Parameter, Range};
+use vl_tree::{Block, Expr, Item, Parameter, Range};
 
 /// Whether it is too large with these.
 fn is_past(added: Added, before: Totals) -> bool
@@ -75,6 +76,13 @@ pub fn given_place(pos: Pos, value: &Option<Expr>, added: Added, before: Totals)
     } else {
         pos
     }
+}
+
+/// Where a block of a generate construct stands, which is one node.
+pub fn block_place(block: &Block) -> Pos
+    ensures { (t : refused.Totals) (at : Place) → result ≡ spec.judged_pos t (block_step at (block_of block.now)) }
+{
+    block_pos(block)
 }
 
 fn name_at(pos: Pos, before: u64) -> Option<Pos>
@@ -130,8 +138,8 @@ fn large_item(
     Ok(first_place(behind.found, name, item.pos))
 }
 
-/// The same of an item, with a loop's turns and the chosen block of an `if`. `names`: what names mean at it; `numbers`:
-/// the numbers of constants there, refused or not; the innermost names say what hides constants in its scope.
+/// The same of an item, with a loop's turns. `names`: what names mean at it; `numbers`: the numbers of constants there,
+/// refused or not; the innermost names say what hides constants in its scope.
 pub fn item_place(
     alloc: Global,
     item: &Item,

@@ -9,7 +9,7 @@ ghost use Rattle.vl_elab_places.specs.Passing as spec;
 
 use crate::cursor::Cursor;
 use crate::exprs::pass_expr;
-use fv_text::{Memory, Pos};
+use fv_text::Memory;
 use std::alloc::Global;
 use vl_elab_check_item::{HeadValues, MOST_TURNS, head_values, next_turn};
 use vl_elab_const::genvar_value;
@@ -17,17 +17,16 @@ use vl_elab_scope::Names;
 use vl_mean::Const;
 use vl_tree::LoopHead;
 
-/// Behind the turns from the one with this value on. `block`: where the block of each turn stands.
+/// Behind the turns from the one with this value on.
 fn pass_turns(
     alloc: Global,
     head: &LoopHead,
-    block: Pos,
     first: Const,
     start: Cursor,
     numbers: &mut Names,
 ) -> Result<Cursor, Memory>
     ensures numbers { OnOk result (numbers.new ≡ numbers.old) }
-    ensures behind { IfOk result (λ k. k ≡ spec.turns_passed most_turns numbers.old head.now block first start) }
+    ensures behind { IfOk result (λ k. k ≡ spec.turns_passed most_turns numbers.old head.now first start) }
 {
     let mut at = start;
     let mut value = first;
@@ -38,8 +37,7 @@ fn pass_turns(
         match next {
             None => return Ok(at),
             Some(next) => {
-                let inside = at.moved(1, block);
-                at = pass_expr(&head.next, inside);
+                at = pass_expr(&head.next, at);
                 value = next;
                 left -= 1;
             }
@@ -51,35 +49,32 @@ fn pass_turns(
 fn pass_all_turns(
     alloc: Global,
     head: &LoopHead,
-    block: Pos,
     start: Cursor,
     numbers: &mut Names,
 ) -> Result<Cursor, Memory>
     ensures numbers { OnOk result (numbers.new ≡ numbers.old) }
-    ensures behind { IfOk result (λ k. k ≡ spec.turns_passed most_turns numbers.old head.now block
+    ensures behind { IfOk result (λ k. k ≡ spec.turns_passed most_turns numbers.old head.now
         (genvar_number numbers.old head.now.start) start) }
 {
     let first = genvar_value(alloc, &head.start, numbers)?;
-    pass_turns(alloc, head, block, first, start, numbers)
+    pass_turns(alloc, head, first, start, numbers)
 }
 
 /// Behind the first turn alone.
 fn pass_turn(
     alloc: Global,
     head: &LoopHead,
-    block: Pos,
     first: Const,
     start: Cursor,
     numbers: &mut Names,
 ) -> Result<Cursor, Memory>
     ensures numbers { OnOk result (numbers.new ≡ numbers.old) }
-    ensures behind { IfOk result (λ k. k ≡ spec.turn_passed numbers.old head.now block first start) }
+    ensures behind { IfOk result (λ k. k ≡ spec.turn_passed numbers.old head.now first start) }
 {
     let next = next_turn(alloc, head, first, numbers)?;
     let behind = pass_expr(&head.condition, start);
     if next.is_some() {
-        let inside = behind.moved(1, block);
-        Ok(pass_expr(&head.next, inside))
+        Ok(pass_expr(&head.next, behind))
     } else {
         Ok(behind)
     }
@@ -88,16 +83,15 @@ fn pass_turn(
 fn pass_first_turn(
     alloc: Global,
     head: &LoopHead,
-    block: Pos,
     start: Cursor,
     numbers: &mut Names,
 ) -> Result<Cursor, Memory>
     ensures numbers { OnOk result (numbers.new ≡ numbers.old) }
-    ensures behind { IfOk result (λ k. k ≡ spec.turn_passed numbers.old head.now block
+    ensures behind { IfOk result (λ k. k ≡ spec.turn_passed numbers.old head.now
         (genvar_number numbers.old head.now.start) start) }
 {
     let first = genvar_value(alloc, &head.start, numbers)?;
-    pass_turn(alloc, head, block, first, start, numbers)
+    pass_turn(alloc, head, first, start, numbers)
 }
 
 /// `further`: the step has a value.
@@ -105,17 +99,16 @@ fn pass_begun(
     alloc: Global,
     further: bool,
     head: &LoopHead,
-    block: Pos,
     start: Cursor,
     numbers: &mut Names,
 ) -> Result<Cursor, Memory>
     ensures numbers { OnOk result (numbers.new ≡ numbers.old) }
-    ensures behind { IfOk result (λ k. k ≡ spec.begun_passed further numbers.old head.now block start) }
+    ensures behind { IfOk result (λ k. k ≡ spec.begun_passed further numbers.old head.now start) }
 {
     if further {
-        pass_all_turns(alloc, head, block, start, numbers)
+        pass_all_turns(alloc, head, start, numbers)
     } else {
-        pass_first_turn(alloc, head, block, start, numbers)
+        pass_first_turn(alloc, head, start, numbers)
     }
 }
 
@@ -124,16 +117,15 @@ fn pass_valued(
     alloc: Global,
     values: HeadValues,
     head: &LoopHead,
-    block: Pos,
     start: Cursor,
     numbers: &mut Names,
 ) -> Result<Cursor, Memory>
     ensures numbers { OnOk result (numbers.new ≡ numbers.old) }
-    ensures behind { IfOk result (λ k. k ≡ spec.loop_passed values numbers.old head.now block start) }
+    ensures behind { IfOk result (λ k. k ≡ spec.loop_passed values numbers.old head.now start) }
 {
     let begins = values.turns;
     if begins {
-        return pass_begun(alloc, values.further, head, block, start, numbers);
+        return pass_begun(alloc, values.further, head, start, numbers);
     }
     Ok(pass_expr(&head.condition, start))
 }
@@ -143,7 +135,6 @@ fn pass_valued(
 pub(crate) fn pass_loop(
     alloc: Global,
     head: &LoopHead,
-    block: Pos,
     start: Cursor,
     names: &mut Names,
     numbers: &mut Names,
@@ -151,9 +142,9 @@ pub(crate) fn pass_loop(
     ensures names { OnOk result (names.new ≡ names.old) }
     ensures numbers { OnOk result (numbers.new ≡ numbers.old) }
     ensures behind { IfOk result (λ k. (at : Place) → Alike names.old (meanings_at at)
-        → HaveNumbers numbers.old at.scopes → k ≡ spec.passed (loop_places head.now block at) start) }
+        → HaveNumbers numbers.old at.scopes → k ≡ spec.passed (loop_places head.now at) start) }
 {
     let values = head_values(alloc, head, names, numbers)?;
-    let behind = pass_valued(alloc, values, head, block, start, numbers)?;
+    let behind = pass_valued(alloc, values, head, start, numbers)?;
     Ok(behind)
 }

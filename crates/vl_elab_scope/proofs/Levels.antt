@@ -1,10 +1,11 @@
 -- What names mean in scopes that are kept, the innermost last.
 use Rattle.std.specs.Prelude.{◌≡◌, refl, ℕ, List, [], ◌∷◌, ◌++◌, length, Bool, true, false}
 use Rattle.std.specs.Prelude.{bytes_eq, Some, None}
-use Rattle.std.specs.Prelude.{if◌then◌else◌, drop, Option, option_to_list}
+use Rattle.std.specs.Prelude.{if◌then◌else◌, take, drop, ◌-◌, ◌+◌, Option, option_to_list}
 use Rattle.std.specs.Map.{lookup}
 use Rattle.std.specs.Prelude.{Result, Ok, Err, OnOk, OnErr, MatchOption}
-use Rattle.std.proofs.Common.{ap, sym, ◌∙◌, subst, arith}
+use Rattle.std.proofs.Common.{ap, sym, ◌∙◌, subst, arith, append_assoc, length-append, length-drop, take-append-drop}
+use Rattle.std.proofs.lemmas.List.{drop_at, take_at}
 use Rattle.vl_elab_spec.specs.Meanings.{Meaning, undeclared, Names, is_undeclared, meaning_of, meaning_in}
 use Rattle.vl_elab_scope.specs.declared.meaning.Meaning.{Meaning as Kept}
 use Rattle.vl_elab_scope.specs.declared.meaning.Meaning.TheVariants as k
@@ -117,3 +118,78 @@ named_left old new e h = subst AllNamed (sym e) (named_rest (inward old) h)
 pub none_empty : {A : Type 0} (r : Option A) (P : Type 0) (Q : A → Type 0) → MatchOption r P Q → r ≡ None → P
 none_empty None P Q h e = h
 none_empty (Some x) P Q h e = cc
+
+-- ---- several scopes that are entered and left
+
+pub inward_append : (ls ms : List Names) → inward (ls ++ ms) ≡ inward ms ++ inward ls
+inward_append [] ms = sym (no_more (inward ms))
+inward_append (l ∷ ls) ms =
+    ap (λ ns. ns ++ l ∷ []) (inward_append ls ms) ∙ append_assoc (inward ms) (inward ls) (l ∷ [])
+
+pub inward_length : (ls : List Names) → length (inward ls) ≡ length ls
+inward_length [] = refl
+inward_length (l ∷ ls) =
+    length-append (inward ls) (l ∷ []) ∙ (let e = inward_length ls in omega (arith, e))
+
+all_named_both : (ns ms : List Names) → AllNamed ns → AllNamed ms → AllNamed (ns ++ ms)
+all_named_both [] ms h k = k
+all_named_both (n ∷ ns) ms h k = (h.0, all_named_both ns ms h.1 k)
+
+all_named_front : (ns ms : List Names) → AllNamed (ns ++ ms) → AllNamed ns
+all_named_front [] ms h = tt
+all_named_front (n ∷ ns) ms h = (h.0, all_named_front ns ms h.1)
+
+all_named_back : (ns ms : List Names) → AllNamed (ns ++ ms) → AllNamed ms
+all_named_back [] ms h = h
+all_named_back (n ∷ ns) ms h = all_named_back ns ms h.1
+
+pub laid : (old others new : List Names) → new ≡ old ++ others → inward new ≡ inward others ++ inward old
+laid old others new e = ap inward e ∙ inward_append old others
+
+pub laid_named : (old others new : List Names) → AllNamed (inward old) → AllNamed (inward others) → new ≡ old ++ others
+    → AllNamed (inward new)
+laid_named old others new h k p =
+    subst AllNamed (sym (laid old others new p)) (all_named_both (inward others) (inward old) k h)
+
+pub named_laid : {A E : Type 0} (r : Result A E) (old others new left : List Names) → AllNamed (inward old)
+    → AllNamed (inward others) → OnOk r (new ≡ old ++ others) → OnOk r (left ≡ [])
+    → OnErr r ((new ≡ old) × (left ≡ others)) → AllNamed (inward new) × AllNamed (inward left)
+named_laid (Ok x) old others new left h k p q e = (
+  subst AllNamed (sym (laid old others new p)) (all_named_both (inward others) (inward old) k h),
+  subst (λ ls. AllNamed (inward ls)) (sym q) tt,
+)
+named_laid (Err x) old others new left h k p q e =
+    (subst (λ ls. AllNamed (inward ls)) (sym e.0) h, subst (λ ls. AllNamed (inward ls)) (sym e.1) k)
+
+-- of levels the last ones, as far as they are these, and the rest
+module _ (ls over rest : List Names) (count : ℕ) (is : inward ls ≡ over ++ rest) (long : length over ≡ count) where
+  abbrev kept : ℕ
+  kept = length ls - count
+
+  parted : inward (drop kept ls) ++ inward (take kept ls) ≡ over ++ rest
+  parted =
+      sym (inward_append (take kept ls) (drop kept ls)) ∙ ap inward (take-append-drop kept ls) ∙ is
+
+  as_long : length (inward (drop kept ls)) ≡ length over
+  as_long =
+      let all : length ls ≡ length over + length rest =
+      sym (inward_length ls) ∙ ap length is ∙ length-append over rest in
+      inward_length (drop kept ls) ∙ length-drop kept ls ∙ omega (arith, all, long)
+
+  pub lifted : inward (drop kept ls) ≡ over
+  lifted =
+      sym (take_at (inward (drop kept ls)) (inward (take kept ls)) (length over) as_long) ∙ ap (take (length over)) parted
+      ∙ take_at over rest (length over) refl
+
+  pub beneath : inward (take kept ls) ≡ rest
+  beneath =
+      sym (drop_at (inward (drop kept ls)) (inward (take kept ls)) (length over) as_long) ∙ ap (drop (length over)) parted
+      ∙ drop_at over rest (length over) refl
+
+pub named_parted : (ls : List Names) (k : ℕ) → AllNamed (inward ls)
+    → AllNamed (inward (drop k ls)) × AllNamed (inward (take k ls))
+named_parted ls k h =
+    let both = subst AllNamed (sym (ap inward (take-append-drop k ls)) ∙ inward_append (take k ls) (drop k ls)) h in (
+      all_named_front (inward (drop k ls)) (inward (take k ls)) both,
+      all_named_back (inward (drop k ls)) (inward (take k ls)) both,
+    )

@@ -8,6 +8,7 @@ mod alike_law;
 pub mod blocks;
 mod constants;
 mod context;
+mod copies;
 mod divisions;
 mod level;
 mod meaning;

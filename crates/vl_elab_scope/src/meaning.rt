@@ -28,7 +28,7 @@ pub enum Meaning {
     Faulty,
     /// A net or a variable whose own declaration is refused for its shape.
     Shapeless,
-    /// A name of the scope of a parameter, and no parameter before it.
+    /// A name of the scope of a parameter or a scope around, and no parameter before it.
     Later,
 }
 

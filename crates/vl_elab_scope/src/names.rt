@@ -1,6 +1,7 @@
 //! What names mean in scopes.
-ghost use Rattle.std.specs.Prelude.{◌≡◌, ◌++◌, ◌∷◌, [], drop, OnOk, OnErr};
+ghost use Rattle.std.specs.Prelude.{◌≡◌, ◌-◌, ◌++◌, ◌∷◌, [], List, take, drop, length, IfOk, OnOk, OnErr};
 ghost use Rattle.std.specs.Option.{option_copied};
+ghost use Rattle.vl_elab_spec.specs.Meanings as meanings;
 ghost use Rattle.vl_elab_spec.specs.Meanings.{meaning_in};
 ghost use Rattle.vl_elab_scope.specs.Seen as spec;
 
@@ -67,6 +68,30 @@ impl Names {
         or_empty(alloc, last)
     }
 
+    /// Enters all scopes of others within these, in their order; the others have none then. How many there were is
+    /// answered. Where no memory is left nothing changes.
+    pub fn lay(&mut self, others: &mut Names) -> Result<usize, Memory>
+        ensures names { OnOk result (self.new ≡ others.old ++ self.old) }
+        ensures others { OnOk result (others.new ≡ []) }
+        ensures count { IfOk result (λ n. n ≡ length others.old) }
+    {
+        let count = others.levels.len();
+        move_all(&mut self.levels, &mut others.levels)?;
+        Ok(count)
+    }
+
+    /// Leaves so many scopes, where there are so many, and hands them out.
+    pub fn lift(&mut self, count: usize) -> Result<Names, Memory>
+        ensures laid { IfOk result (λ laid. (over rest : List meanings.Names)
+            → self.old ≡ over ++ rest → length over ≡ count → laid ≡ over) }
+        ensures rest { OnOk result ((over rest : List meanings.Names)
+            → self.old ≡ over ++ rest → length over ≡ count → self.new ≡ rest) }
+    {
+        Ok(Names {
+            levels: last_levels(&mut self.levels, count)?,
+        })
+    }
+
     /// What the innermost scope that declares the name says of it. None exactly where no scope does.
     pub fn meaning(&self, name: &Text) -> Option<&Meaning>
         ensures value { spec.seen_or (option_copied result) ≡ meaning_in self.now name.now }
@@ -91,6 +116,31 @@ fn push(levels: &mut Vec<Level>, level: Level) -> Result<(), Memory>
 {
     match levels.push(level) {
         Ok(()) => Ok(()),
+        Err(_) => Err(Memory),
+    }
+}
+
+/// Behind the others.
+fn move_all(levels: &mut Vec<Level>, others: &mut Vec<Level>) -> Result<(), Memory>
+    ensures levels { OnOk result (levels.new.items ≡ levels.old.items ++ others.old.items) }
+    ensures others { OnOk result (others.new.items ≡ []) }
+    ensures err { OnErr result ((levels.new.items ≡ levels.old.items) × (others.new.items ≡ others.old.items)) }
+{
+    match levels.append(others) {
+        Ok(()) => Ok(()),
+        Err(_) => Err(Memory),
+    }
+}
+
+/// So many of them, or all where there are fewer.
+fn last_levels(levels: &mut Vec<Level>, count: usize) -> Result<Vec<Level>, Memory>
+    ensures rest { OnOk result (levels.new.items ≡ take (length levels.old.items - count) levels.old.items) }
+    ensures last { IfOk result (λ v. v.items ≡ drop (length levels.old.items - count) levels.old.items) }
+    ensures err { OnErr result (levels.new.items ≡ levels.old.items) }
+{
+    let kept = levels.len().saturating_sub(count);
+    match levels.split_off(kept) {
+        Ok(last) => Ok(last),
         Err(_) => Err(Memory),
     }
 }

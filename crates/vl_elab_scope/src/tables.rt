@@ -154,7 +154,7 @@ fn push(alloc: Global, object: &Object, decls: &mut Decls) -> Result<(), Memory>
     decls.push(copied(alloc, &object.decl)?)
 }
 
-fn copied(alloc: Global, decl: &Decl) -> Result<Decl, Memory>
+pub(crate) fn copied(alloc: Global, decl: &Decl) -> Result<Decl, Memory>
     ensures { IfOk result (λ d. d ≡ decl.now) }
 {
     Ok(Decl {

@@ -20,8 +20,8 @@ use Rattle.vl_mean.specs.Cells.{contains_name}
 use Rattle.vl_mean.specs.Constants.{constant_operand}
 use Rattle.vl_mean.specs.Declarations.{block_name, is_if, label_of}
 use Rattle.vl_mean.specs.Scopes.{constant_in}
-use Rattle.vl_mean.specs.Walk.{Place, Step, Unfolding, Valued, item, with_earlier, module_named, block_place}
-use Rattle.vl_mean.specs.Walk.{block_path, item_walk, items_walk, turn_walk, block_walk}
+use Rattle.vl_mean.specs.Walk.{Place, Step, Unfolding, Valued, item, block_step, with_earlier, module_named}
+use Rattle.vl_mean.specs.Walk.{block_path, block_place, item_walk, items_walk, turn_walk, block_walk}
 use Rattle.vl_elab_spec.specs.declared.elab_fault.ElabFault.{ElabFault}
 use Rattle.vl_elab_spec.specs.declared.elab_fault.ElabFault.TheVariants as f
 use Rattle.vl_elab_spec.specs.Expressions.{refused_if}
@@ -168,23 +168,27 @@ module _ (valued : Valued) (ms : List Module) (inner : Unfolding) where
       → items_walk valued ms inner (more_items x no_items) at n ≡ item_walk valued ms inner x at n
   one_item x at n = append-nil (item_walk valued ms inner x at n)
 
+  -- behind the block's own step
   pub turn_items : (b : Block) (at : Place) (path : List ℕ)
-      → items_walk valued ms inner (block_items b) (block_place at path (block_items b)) 1 ≡ turn_walk valued ms inner b at path
+      → (block_step at b ∷ []) ++ items_walk valued ms inner (block_items b) (block_place at path (block_items b)) 1
+      ≡ turn_walk valued ms inner b at path
   turn_items (begin p label xs) at path = refl
   turn_items (region p xs) at path = refl
-  turn_items (single x) at path = one_item x (block_place at path (more_items x no_items)) 1
+  turn_items (single x) at path =
+      ap (λ ys. block_step at (single x) ∷ ys) (one_item x (block_place at path (more_items x no_items)) 1)
 
   -- a block that makes a scope
   pub scope_items : (b : Block) (at : Place) (n : ℕ) → nested_if b ≡ None
-      → items_walk valued ms inner (block_items b)
+      → (block_step at b ∷ []) ++ items_walk valued ms inner (block_items b)
       (block_place at (block_path at (block_name at.names n (label_of b))) (block_items b)) 1
       ≡ block_walk valued ms inner b at n
   scope_items (begin p label xs) at n e = refl
   scope_items (region p xs) at n e = refl
   scope_items (single x) at n e =
       let inside : Place = block_place at (block_path at (block_name at.names n None)) (more_items x no_items) in
-      one_item x inside 1
-      ∙ ap (λ b. item_walk valued ms inner x (if b then at else inside) (if b then n else 1)) (sym (alone (is_if x) e))
+      ap (λ ys. block_step at (single x) ∷ ys)
+      (one_item x inside 1
+      ∙ ap (λ b. item_walk valued ms inner x (if b then at else inside) (if b then n else 1)) (sym (alone (is_if x) e)))
     where
       alone : (b : Bool) → (if b then Some x else None) ≡ None → b ≡ false
       alone true h = cc
@@ -192,13 +196,14 @@ module _ (valued : Valued) (ms : List Module) (inner : Unfolding) where
 
   -- one that makes none
   pub nested_item : (b : Block) (x : Item) (at : Place) (n : ℕ) → nested_if b ≡ Some x
-      → item_walk valued ms inner x at n ≡ block_walk valued ms inner b at n
+      → (block_step at b ∷ []) ++ item_walk valued ms inner x at n ≡ block_walk valued ms inner b at n
   nested_item (begin p label xs) x at n e = cc
   nested_item (region p xs) x at n e = cc
   nested_item (single y) x at n e =
       let inside : Place = block_place at (block_path at (block_name at.names n None)) (more_items y no_items) in
-      ap (λ z. item_walk valued ms inner z at n) (sym (same (is_if y) e))
-      ∙ ap (λ b. item_walk valued ms inner y (if b then at else inside) (if b then n else 1)) (sym (nested (is_if y) e))
+      ap (λ ys. block_step at (single y) ∷ ys)
+      (ap (λ z. item_walk valued ms inner z at n) (sym (same (is_if y) e))
+      ∙ ap (λ b. item_walk valued ms inner y (if b then at else inside) (if b then n else 1)) (sym (nested (is_if y) e)))
     where
       nested : (b : Bool) → (if b then Some y else None) ≡ Some x → b ≡ true
       nested true h = refl

@@ -102,9 +102,9 @@ module _ (valued : Valued) (ms : List Module) where
 
   pub instance_found : (inner : Unfolding) (at : Place) (x : Instance) (o : Option Module)
       → module_named ms x.definition ≡ o
-      → with_module o (λ m. inner m (use_of at.scopes x) (at.path ++ x.name ++ codes ".") at.modules
-      (front_steps at m (use_of at.scopes x) (at.path ++ x.name ++ codes ".") x))
-      ≡ instance_steps ms inner at x
+      → with_module o (λ m. inner m (use_of (valued at) at.scopes x) (at.path ++ x.name ++ codes ".") at.modules
+      (front_steps at m (use_of (valued at) at.scopes x) (at.path ++ x.name ++ codes ".") x))
+      ≡ instance_steps valued ms inner at x
   instance_found inner at x o e =
-      ap (λ o. with_module o (λ m. inner m (use_of at.scopes x) (at.path ++ x.name ++ codes ".") at.modules
-      (front_steps at m (use_of at.scopes x) (at.path ++ x.name ++ codes ".") x))) (sym e)
+      ap (λ o. with_module o (λ m. inner m (use_of (valued at) at.scopes x) (at.path ++ x.name ++ codes ".") at.modules
+      (front_steps at m (use_of (valued at) at.scopes x) (at.path ++ x.name ++ codes ".") x))) (sym e)

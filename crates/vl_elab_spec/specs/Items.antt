@@ -72,7 +72,8 @@ use Rattle.vl_mean.specs.Declarations.{class_of_attributes, class_of_kind, joine
 use Rattle.vl_mean.specs.Declarations.{is_if}
 use Rattle.vl_mean.specs.Parts.{target_of}
 use Rattle.vl_mean.specs.Scopes.{is_clock, is_clock_class}
-use Rattle.vl_mean.specs.Walk.{Place, Contents, Use, Step, header, port, item, override, connection, module_named}
+use Rattle.vl_mean.specs.Walk.{Place, Contents, Use, Step, header, port, item, override, connection, block_step}
+use Rattle.vl_mean.specs.Walk.{module_named}
 use Rattle.vl_mean.specs.Walk.{Valued}
 use Rattle.vl_mean.specs.Walk.{module_parameters, module_scope, module_contents, turn_place, goes_on, next_turn}
 use Rattle.vl_mean.specs.Walk.{first_turn, most_turns}
@@ -444,3 +445,4 @@ step_refusals ms (port at u p q) = port_refusals at p.pos q
 step_refusals ms (item at x) = item_refusals ms at x
 step_refusals ms (override at m u given x) = override_refusals at m u given x
 step_refusals ms (connection at m u inside given x) = connection_refusals at m u given x
+step_refusals ms (block_step at b) = []

@@ -40,7 +40,8 @@ use Rattle.vl_size.specs.Table.{span, declared_as}
 use Rattle.vl_mean.specs.declared.const_number.Const.{Const}
 use Rattle.vl_mean.specs.Cells.{contains_name}
 use Rattle.vl_mean.specs.Constants.{constant_of, constant_operand, settled}
-use Rattle.vl_mean.specs.Declarations.{Overrides, class_of_attributes, class_of_kind, joined_attributes}
+use Rattle.vl_mean.specs.Declarations.{Overrides, is_value_or, class_of_attributes, class_of_kind}
+use Rattle.vl_mean.specs.Declarations.{joined_attributes}
 use Rattle.vl_mean.specs.Scopes.{Scope}
 use Rattle.vl_mean.specs.Walk.{Contents, Place, parameter_names, port_names}
 use Rattle.vl_elab_spec.specs.declared.role.Role.{Role}
@@ -59,7 +60,7 @@ pub data Meaning : Type 0 where
   faulty : Meaning
   -- a net or a variable whose own declaration is refused for its shape; it is no constant, whatever that is
   shapeless : Meaning
-  -- of the scope of a parameter, and no parameter before it
+  -- of the scope of a parameter or a scope around, and no parameter before it
   later : Meaning
 
 -- the names of a scope; the first one of a name counts
@@ -125,7 +126,7 @@ is_known_shape ns r = is_known_range ns r && nat_le (declared_width ns r) 128
 
 abbrev pub is_overridden : Overrides → List ℕ → Bool
 is_overridden [] text = false
-is_overridden (o ∷ os) text = bytes_eq text o.0 || is_overridden os text
+is_overridden (o ∷ os) text = bytes_eq text o.name || is_overridden os text
 
 -- the value of a parameter, which is assigned to its range, where it has one
 abbrev pub is_known_value : List Names → Option Range → Expr → Bool
@@ -135,7 +136,7 @@ is_known_value ns (Some r) e = is_known_assigned ns (declared_width ns (Some r))
 -- a value that is given at an instance is judged there
 abbrev pub is_known_parameter : Overrides → List Names → Parameter → Bool
 is_known_parameter os ns x =
-    (is_overridden os x.name || is_known_value ns x.shape.range x.value) && is_known_shape ns x.shape.range
+    is_value_or os x.name (is_known_value ns x.shape.range x.value) && is_known_shape ns x.shape.range
 
 -- with a range it may be selected from where this is `[width - 1 : 0]`
 abbrev pub may_be_selected : List Names → Option Range → Bool
@@ -243,43 +244,55 @@ module _ (s : Scope) (outer : List Names) where
   items_meanings ns no_items = []
   items_meanings ns (more_items x xs) = item_meanings ns x ++ items_meanings ns xs
 
-  -- a loop's variable is its scope's only constant
-  abbrev pub scope_meanings : Contents → Names
-  scope_meanings c =
-      let behind = all_later c in
-      let first = with_parameter_meanings c.overrides behind [] c.parameters in
-      let own = with_item_constants c.overrides behind first c.items in
-      let around = (own ++ behind) ∷ outer in
-      own ++ port_meanings around c.ports ++ items_meanings around c.items
-      ++ map (λ x. (x.0, constant x.1 true)) s.constants
-
-abbrev pub all_meanings : List Scope → List Contents → List Names
-all_meanings [] cs = []
-all_meanings (s ∷ ss) [] = []
-all_meanings (s ∷ ss) (c ∷ cs) = let outer = all_meanings ss cs in scope_meanings s outer c ∷ outer
-
--- what names mean at a step
-abbrev pub meanings_at : Place → List Names
-meanings_at at = all_meanings at.scopes at.contents
-
--- of the names of a scope, the parameters that don't stand before a step
-abbrev pub not_reached : List (List ℕ) → List (List ℕ) → List ℕ × Meaning → List ℕ × Meaning
-not_reached parameters earlier n =
-    if contains_name parameters n.0 && not (contains_name earlier n.0) then (n.0, later) else n
+-- ---- what stands before: a parameter may use those before it alone, in its scope and in the scopes around
 
 abbrev pub parameters_of : Items → List (List ℕ)
 parameters_of no_items = []
 parameters_of (more_items (parameter attrs p kind xs) more) = parameter_names xs ++ parameters_of more
 parameters_of (more_items x more) = parameters_of more
 
-abbrev pub first_reached : List (List ℕ) → List Contents → List Names → List Names
-first_reached earlier (c ∷ cs) (ns ∷ outer) =
-    map (not_reached (parameter_names c.parameters ++ parameters_of c.items) earlier) ns ∷ outer
-first_reached earlier cs ns = ns
+-- all parameters of a scope
+abbrev pub scope_parameters : Contents → List (List ℕ)
+scope_parameters c = parameter_names c.parameters ++ parameters_of c.items
+
+-- of the names of a scope, the parameters that don't stand before a step
+abbrev pub not_reached : List (List ℕ) → List (List ℕ) → List ℕ × Meaning → List ℕ × Meaning
+not_reached parameters earlier n =
+    if contains_name parameters n.0 && not (contains_name earlier n.0) then (n.0, later) else n
+
+-- what names mean behind these names of the innermost scope, and in each scope around behind those that stand before
+-- the scope within
+abbrev pub reached : List Contents → List (List ℕ) → List Names → List Names
+reached (c ∷ cs) earlier (ns ∷ outer) =
+    map (not_reached (scope_parameters c) earlier) ns ∷ reached cs c.earlier outer
+reached cs earlier ns = ns
+
+-- ---- scopes
+
+-- Its parameters use what is reached of the scopes around, and all else in it what names mean there. A loop's variable
+-- is its scope's only constant.
+abbrev pub scope_meanings : Scope → List Names → List Names → Contents → Names
+scope_meanings s before outer c =
+    let behind = all_later c in
+    let first = with_parameter_meanings s before c.overrides behind [] c.parameters in
+    let own = with_item_constants s before c.overrides behind first c.items in
+    let around = (own ++ behind) ∷ outer in
+    own ++ port_meanings s outer around c.ports ++ items_meanings s outer around c.items
+    ++ map (λ x. (x.0, constant x.1 true)) s.constants
+
+abbrev pub all_meanings : List Scope → List Contents → List Names
+all_meanings [] cs = []
+all_meanings (s ∷ ss) [] = []
+all_meanings (s ∷ ss) (c ∷ cs) =
+    let outer = all_meanings ss cs in scope_meanings s (reached cs c.earlier outer) outer c ∷ outer
+
+-- what names mean at a step
+abbrev pub meanings_at : Place → List Names
+meanings_at at = all_meanings at.scopes at.contents
 
 -- what names mean in the value of a parameter, behind what declares these names in its scope
 abbrev pub meanings_before : Place → List (List ℕ) → List Names
-meanings_before at earlier = first_reached earlier at.contents (meanings_at at)
+meanings_before at earlier = reached at.contents earlier (meanings_at at)
 
 -- ---- declarations whose shape is known, as far as no inner name hides them
 

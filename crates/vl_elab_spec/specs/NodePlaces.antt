@@ -1,11 +1,13 @@
 -- Meaning: Where the nodes and the declared names of a step stand in the text, in reading order: a node before its
 -- parts, and of a loop each turn behind the one before it. There are as many as are counted. Rule of this project.
-use Rattle.std.specs.Prelude.{ℕ, zero, suc, ◌-◌, List, [], ◌∷◌, ◌++◌, map, ◌&&◌, nat_lt, Option, Some, None}
+use Rattle.std.specs.Prelude.{ℕ, zero, suc, ◌-◌, List, [], ◌∷◌, ◌++◌, ◌&&◌, nat_lt, Option, Some, None}
 use Rattle.std.specs.Prelude.{if◌then◌else◌}
 use Rattle.fv_text.specs.declared.pos.Pos.{Pos}
 use Rattle.vl_tree.specs.declared.declaration.DeclaredName.{DeclaredName}
 use Rattle.vl_tree.specs.declared.declaration.Parameter.{Parameter}
 use Rattle.vl_tree.specs.declared.declaration.Range.{Range}
+use Rattle.vl_tree.specs.declared.item.RegionMark.{RegionMark}
+use Rattle.vl_tree.specs.declared.item.RegionMark.TheVariants as mark
 use Rattle.vl_tree.specs.declared.part.Assignment.{Assignment}
 use Rattle.vl_tree.specs.declared.part.LoopHead.{LoopHead}
 use Rattle.vl_tree.specs.Expr.{
@@ -31,7 +33,6 @@ use Rattle.vl_tree.specs.Expr.{
 use Rattle.vl_tree.specs.Item as tree
 use Rattle.vl_tree.specs.Item.{
   Item,
-  Block,
   declaration,
   integer,
   genvar,
@@ -41,21 +42,17 @@ use Rattle.vl_tree.specs.Item.{
   instance,
   generate,
   for_loop,
-  region,
-  single,
 }
 use Rattle.vl_tree.specs.Lval.{Lval, Lvals, named, joined, no_lvals, more_lvals}
 use Rattle.vl_tree.specs.Stmt.{Stmt, Stmts, Arms, begin, if_only, if_else, case, assign, assume, empty, no_stmts}
 use Rattle.vl_tree.specs.Stmt.{more_stmts, no_arms, labels, default}
-use Rattle.vl_size.specs.Size.{is_true}
 use Rattle.vl_mean.specs.declared.const_number.Const.{Const}
-use Rattle.vl_mean.specs.Constants.{constant_operand}
 use Rattle.vl_mean.specs.Declarations.{word_bounds}
 use Rattle.vl_mean.specs.FlatLaw.{name_count}
-use Rattle.vl_mean.specs.Scopes.{Scope, constant_in}
-use Rattle.vl_mean.specs.Walk.{Place, Step, header, port, item, override, connection, goes_on, next_turn, first_turn}
-use Rattle.vl_mean.specs.Walk.{most_turns, turn_place}
-use Rattle.vl_elab_spec.specs.Counts.{item_pos}
+use Rattle.vl_mean.specs.Scopes.{Scope}
+use Rattle.vl_mean.specs.Walk.{Place, Step, header, port, item, override, connection, block_step, goes_on, next_turn}
+use Rattle.vl_mean.specs.Walk.{first_turn, most_turns, turn_place}
+use Rattle.vl_elab_spec.specs.Counts.{block_pos}
 use Rattle.vl_elab_spec.specs.Items.{is_valued}
 
 -- ---- expressions, targets and statements
@@ -138,59 +135,52 @@ assignment_places (x ∷ xs) = target_places x.target ++ expr_places x.value ++ 
 
 -- ---- generate constructs
 
-abbrev pub block_pos : Block → Pos
-block_pos (tree.begin p label xs) = p
-block_pos (region p xs) = p
-block_pos (single x) = item_pos x
-
--- a turn: its condition, its block, and what leads to the next one; that behind the last one ends with its condition
-abbrev pub turn_places : ℕ → LoopHead → Pos → Place → Const → List Pos
-turn_places zero head b at c = expr_places head.condition
-turn_places (suc n) head b at c =
-    let more = turn_places n head b at (next_turn head at.scopes c) in
-    expr_places head.condition
-    ++ (if goes_on head at.scopes c then b ∷ expr_places head.next ++ more else [])
+-- a turn: its condition, and what leads to the next one; that behind the last one ends with its condition
+abbrev pub turn_places : ℕ → LoopHead → Place → Const → List Pos
+turn_places zero head at c = expr_places head.condition
+turn_places (suc n) head at c =
+    let more = turn_places n head at (next_turn head at.scopes c) in
+    expr_places head.condition ++ (if goes_on head at.scopes c then expr_places head.next ++ more else [])
 
 -- the first turn alone
-abbrev pub one_turn_places : LoopHead → Pos → Place → Const → List Pos
-one_turn_places head b at c =
-    expr_places head.condition ++ (if goes_on head at.scopes c then b ∷ expr_places head.next else [])
+abbrev pub one_turn_places : LoopHead → Place → Const → List Pos
+one_turn_places head at c =
+    expr_places head.condition ++ (if goes_on head at.scopes c then expr_places head.next else [])
 
 -- of the turns that begin, as the walk goes through them
-abbrev pub loop_places : LoopHead → Pos → Place → List Pos
-loop_places head b at =
+abbrev pub loop_places : LoopHead → Place → List Pos
+loop_places head at =
     let first = first_turn head at.scopes in
     let inside = turn_place at head.variable first in
     let turns =
-    if is_valued inside head.next then turn_places most_turns head b at first
-    else one_turn_places head b at first
+    if is_valued inside head.next then turn_places most_turns head at first
+    else one_turn_places head at first
     in if is_valued at head.start && is_valued inside head.condition then turns else expr_places head.condition
 
 -- ---- steps
 
--- an item without what its turns and its chosen block add
+abbrev pub mark_places : RegionMark → Pos → List Pos
+mark_places mark.Open p = p ∷ []
+mark_places mark.Close p = []
+
+-- an item without what its turns add
 abbrev pub own_places : Item → List Pos
 own_places (declaration attrs p d) = p ∷ range_places d.shape.range ++ declared_places d.names
 own_places (integer attrs p xs) = p ∷ declared_places xs
-own_places (genvar attrs p xs) = p ∷ map (λ text. p) xs
+own_places (genvar attrs p xs) = p ∷ []
 own_places (parameter attrs p kind xs) = p ∷ parameter_places xs
 own_places (tree.assign attrs p xs) = p ∷ assignment_places xs
 own_places (always attrs p event s) = p ∷ stmt_places s
 own_places (initial attrs p s) = p ∷ stmt_places s
 own_places (instance attrs p x) = p ∷ []
-own_places (generate attrs p mark) = p ∷ []
+own_places (generate attrs p m) = mark_places m p
 own_places (for_loop attrs p head b) = p ∷ expr_places head.start
 own_places (tree.if_only attrs p c b) = p ∷ expr_places c
 own_places (tree.if_else attrs p c b d) = p ∷ expr_places c
 
--- of a loop its turns, of an `if` the chosen block
+-- of a loop its turns
 abbrev pub inner_places : Place → Item → List Pos
-inner_places at (for_loop attrs p head b) = loop_places head (block_pos b) at
-inner_places at (tree.if_only attrs p c b) =
-    if is_valued at c && is_true (constant_operand (constant_in at.scopes) c) then block_pos b ∷ [] else []
-inner_places at (tree.if_else attrs p c b d) =
-    let chosen = if is_true (constant_operand (constant_in at.scopes) c) then block_pos b else block_pos d
-    in if is_valued at c then chosen ∷ [] else []
+inner_places at (for_loop attrs p head b) = loop_places head at
 inner_places at x = []
 
 abbrev pub node_places : Step → List Pos
@@ -199,6 +189,7 @@ node_places (port at u p q) = p.pos ∷ range_places q.shape.range ++ value_plac
 node_places (item at x) = own_places x ++ inner_places at x
 node_places (override at m u given x) = x.pos ∷ value_places x.value
 node_places (connection at m u inside given x) = x.pos ∷ value_places x.value
+node_places (block_step at b) = block_pos b ∷ []
 
 -- ---- declared names: the words of a memory stand at its name
 

@@ -77,7 +77,7 @@ module _ (valued : Valued) (ms : List Module) (inner : Unfolding) where
 
   -- behind the item itself: of an instance its module, of a loop its turns, of an `if` the chosen block
   abbrev pub inner_walk : Item → Place → ℕ → List Step
-  inner_walk (instance attrs p x) at n = instance_steps ms inner at x
+  inner_walk (instance attrs p x) at n = instance_steps valued ms inner at x
   inner_walk (for_loop attrs p head b) at n =
       let label = block_name at.names n (label_of b) in
       loop_walk valued head at

@@ -4,7 +4,7 @@ ghost use Rattle.vl_tree.specs.declared.source.Module.{Module};
 ghost use Rattle.vl_tree.specs.Item as tree;
 ghost use Rattle.vl_mean.specs.Declarations.{block_name, label_of};
 ghost use Rattle.vl_mean.specs.Walk.{Place, Step, Unfolding, Use, Valued, block_path, block_place, block_walk};
-ghost use Rattle.vl_mean.specs.Walk.{item, item_walk, items_walk, module_place, module_walk, turn_walk};
+ghost use Rattle.vl_mean.specs.Walk.{item, block_step, item_walk, items_walk, module_place, module_walk, turn_walk};
 ghost use Rattle.vl_elab_spec.specs.Refused.{Totals};
 ghost use Rattle.vl_elab_spec.specs.declared.totals.Totals as kept;
 ghost use Rattle.vl_elab_spec.specs.Walked.{AreWalked};
@@ -16,17 +16,18 @@ pub fn an_item_comes_before_what_is_in_it()
         → (item at x ∷ []) ++ within.inner_walk valued ms inner x at n ≡ item_walk valued ms inner x at n }
 {}
 
-/// The steps of a block are those of its items, in a scope of its own but for a directly nested `if`.
+/// The steps of a block are its own and those of its items, in a scope of its own but for a directly nested `if`.
 pub fn blocks_are_walked_by_their_items()
     ensures turn { (valued : Valued) (ms : List Module) (inner : Unfolding) (b : tree.Block) (at : Place) (path : List ℕ)
-        → items_walk valued ms inner (within.block_items b) (block_place at path (within.block_items b)) 1
-        ≡ turn_walk valued ms inner b at path }
+        → (block_step at b ∷ []) ++ items_walk valued ms inner (within.block_items b)
+        (block_place at path (within.block_items b)) 1 ≡ turn_walk valued ms inner b at path }
     ensures scope { (valued : Valued) (ms : List Module) (inner : Unfolding) (b : tree.Block) (at : Place) (n : ℕ)
-        → within.nested_if b ≡ None → items_walk valued ms inner (within.block_items b)
+        → within.nested_if b ≡ None → (block_step at b ∷ []) ++ items_walk valued ms inner (within.block_items b)
         (block_place at (block_path at (block_name at.names n (label_of b))) (within.block_items b)) 1
         ≡ block_walk valued ms inner b at n }
     ensures nested { (valued : Valued) (ms : List Module) (inner : Unfolding) (b : tree.Block) (x : tree.Item) (at : Place) (n : ℕ)
-        → within.nested_if b ≡ Some x → item_walk valued ms inner x at n ≡ block_walk valued ms inner b at n }
+        → within.nested_if b ≡ Some x
+        → (block_step at b ∷ []) ++ item_walk valued ms inner x at n ≡ block_walk valued ms inner b at n }
 {}
 
 /// Modules are unfolded one level deeper than those in them, the steps of a module behind those of its instance.

@@ -90,13 +90,24 @@ of_range ss signed x (Some r) =
     let n = width_in_range (span (bound_of ss r.left) (bound_of ss r.right)) in
     cut_to n signed (x.at (max n x.size) x.sign)
 
--- the values of another instance's parameters, as they are given at an instance
+-- what an instance gives to a parameter of its module, and whether that has a value
+pub record Override : Type 0 where
+  pub name : List ℕ
+  pub operand : Operand
+  pub has_value : Bool
+
+-- the first one of a name counts
 abbrev pub Overrides : Type 0
-Overrides = List (List ℕ × Operand)
+Overrides = List Override
 
 abbrev pub override_or : Overrides → List ℕ → Operand → Operand
 override_or [] text x = x
-override_or (o ∷ os) text x = if bytes_eq text o.0 then o.1 else override_or os text x
+override_or (o ∷ os) text x = if bytes_eq text o.name then o.operand else override_or os text x
+
+-- whether the value that a parameter is given is one, or else its own
+abbrev pub is_value_or : Overrides → List ℕ → Bool → Bool
+is_value_or [] text known = known
+is_value_or (o ∷ os) text known = if bytes_eq text o.name then o.has_value else is_value_or os text known
 
 -- in the scopes around, the constants of the scope itself so far come first
 abbrev pub with_constants : Constants → List Scope → List Scope

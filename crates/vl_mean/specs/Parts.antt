@@ -22,7 +22,7 @@ use Rattle.vl_size.specs.declared.decl.Decl.{Decl}
 use Rattle.vl_size.specs.Size.{◌>>=◌}
 use Rattle.vl_mean.specs.Declarations.{declared_by, port_decl, port_named, ports_of}
 use Rattle.vl_mean.specs.Scopes.{Scope, is_clock}
-use Rattle.vl_mean.specs.Walk.{Place, Step, header, port, item, override, connection, walk}
+use Rattle.vl_mean.specs.Walk.{Place, Step, header, port, item, override, connection, block_step, walk}
 
 pub data Part : Type 0 where
   -- a name is declared; it stands under its full name
@@ -139,6 +139,7 @@ step_parts (port at u p q) =
     ++ optional_value at.scopes (port_kind q.net) q.name q.value
 step_parts (item at x) = item_parts at x
 step_parts (override at m u given x) = []
+step_parts (block_step at b) = []
 step_parts (connection at m u inside given x) =
     port_part at.scopes inside (port_named (ports_of m.ports) x.port) x.value
 

@@ -67,16 +67,22 @@ use Rattle.vl_mean.specs.Declarations.{label_of, names_of, all_names, constructs
 
 -- ---- where steps stand
 
--- what a scope is made from: what is given to its parameters, the parameters of a module's head, its ports, and items
+-- what a scope is made from: what is given to its parameters, the parameters of a module's head, its ports, and items;
+-- and of the names of the scope around those that are declared before it
 pub record Contents : Type 0 where
   pub overrides : Overrides
   pub parameters : List Parameter
   pub ports : List FullPort
   pub items : Items
+  pub earlier : List (List ℕ)
+
+-- items alone
+abbrev pub items_contents : List (List ℕ) → Items → Contents
+items_contents earlier xs = record { overrides = []; parameters = []; ports = []; items = xs; earlier = earlier }
 
 -- a loop's variable alone
-abbrev pub no_contents : Contents
-no_contents = record { overrides = []; parameters = []; ports = []; items = no_items }
+abbrev pub no_contents : List (List ℕ) → Contents
+no_contents earlier = items_contents earlier no_items
 
 -- The scopes over which the bounds in its declarations are read; the scopes in which all else is, the innermost
 -- first, with what each is made from. Of the innermost: its path, the names that are explicitly declared in it, and
@@ -112,14 +118,19 @@ pub data Step : Type 0 where
   -- what an instance joins to a port of its module, which is used so and has these scopes, behind what it joins to
   -- these
   connection : Place → Module → Use → List Scope → List (List ℕ) → Connection → Step
+  -- a block of a generate construct by itself: of a loop in its turn, of an `if` where the `if` stands
+  block_step : Place → Block → Step
 
 -- Whether an expression has a value at a place. In the meaning of a design each has one; what has none chooses no block
--- of an `if` and begins no turn of a loop.
+-- of an `if`, begins no turn of a loop and gives a parameter no value.
 abbrev pub Valued : Type 0
 Valued = Place → Expr → Bool
 
+abbrev pub has_any : Expr → Bool
+has_any e = true
+
 abbrev pub all_valued : Valued
-all_valued at e = true
+all_valued at = has_any
 
 -- ---- modules: sections 12.1 to 12.3
 
@@ -172,6 +183,7 @@ module_contents m u = record {
   parameters = module_parameters m;
   ports = ports_of m.ports;
   items = items m.items;
+  earlier = [];
 }
 
 -- where a module's parts begin
@@ -219,18 +231,21 @@ abbrev pub class_by_connection : List Scope → List Connection → List ℕ →
 class_by_connection ss xs text = if is_clock ss (connected xs text) then class.Clock else class.Net
 
 -- a parameter given as `.P()` keeps its value
-abbrev pub override_of : List Scope → List ℕ → Option Expr → Overrides
-override_of ss text None = []
-override_of ss text (Some e) = (text, constant_operand (constant_in ss) e) ∷ []
+abbrev pub override_of : (Expr → Bool) → List Scope → List ℕ → Option Expr → Overrides
+override_of has_value ss text None = []
+override_of has_value ss text (Some e) =
+    record { name = text; operand = constant_operand (constant_in ss) e; has_value = has_value e } ∷ []
 
-abbrev pub overrides_of : List Scope → List Connection → Overrides
-overrides_of ss [] = []
-overrides_of ss (x ∷ xs) = override_of ss x.port x.value ++ overrides_of ss xs
+abbrev pub overrides_of : (Expr → Bool) → List Scope → List Connection → Overrides
+overrides_of has_value ss [] = []
+overrides_of has_value ss (x ∷ xs) =
+    override_of has_value ss x.port x.value ++ overrides_of has_value ss xs
 
-abbrev pub use_of : List Scope → Instance → Use
-use_of ss x = record {
+-- in these scopes, where these expressions have values
+abbrev pub use_of : (Expr → Bool) → List Scope → Instance → Use
+use_of has_value ss x = record {
   is_top = false;
-  overrides = overrides_of ss (connections_of x.overrides);
+  overrides = overrides_of has_value ss (connections_of x.overrides);
   input = class_by_connection ss x.connections;
 }
 
@@ -252,9 +267,9 @@ abbrev pub with_module : Option Module → (Module → List Step) → List Step
 with_module None f = []
 with_module (Some m) f = f m
 
-abbrev pub instance_steps : List Module → Unfolding → Place → Instance → List Step
-instance_steps ms inner at x =
-    let u = use_of at.scopes x in let inside = at.path ++ x.name ++ codes "." in
+abbrev pub instance_steps : Valued → List Module → Unfolding → Place → Instance → List Step
+instance_steps valued ms inner at x =
+    let u = use_of (valued at) at.scopes x in let inside = at.path ++ x.name ++ codes "." in
     with_module (module_named ms x.definition) (λ m.
     inner m u inside at.modules
     (override_steps at m u [] (connections_of x.overrides)
@@ -271,7 +286,8 @@ abbrev pub with_genvar : List ℕ → Const → List Scope → List Scope
 with_genvar text c ss = with_constants ((text, c) ∷ []) ss
 
 abbrev pub turn_place : Place → List ℕ → Const → Place
-turn_place at text c = record at { scopes = with_genvar text c at.scopes; contents = no_contents ∷ at.contents }
+turn_place at text c =
+    record at { scopes = with_genvar text c at.scopes; contents = no_contents at.earlier ∷ at.contents }
 
 -- a generate loop has at most so many turns; a rule of this project
 abbrev pub most_turns : ℕ
@@ -315,7 +331,7 @@ block_place at path xs =
     let cs = with_items_parameters [] at.scopes [] xs in record {
       around = with_constants cs at.scopes;
       scopes = record { path = path; decls = declared (with_constants cs at.scopes) xs; constants = cs } ∷ at.scopes;
-      contents = record { overrides = []; parameters = []; ports = []; items = xs } ∷ at.contents;
+      contents = items_contents at.earlier xs ∷ at.contents;
       path = path;
       names = all_names xs;
       earlier = [];
@@ -345,7 +361,7 @@ module _ (valued : Valued) (ms : List Module) (inner : Unfolding) where
     item_walk (assign attrs p xs) at n = item at (assign attrs p xs) ∷ []
     item_walk (always attrs p event s) at n = item at (always attrs p event s) ∷ []
     item_walk (initial attrs p s) at n = item at (initial attrs p s) ∷ []
-    item_walk (instance attrs p x) at n = item at (instance attrs p x) ∷ instance_steps ms inner at x
+    item_walk (instance attrs p x) at n = item at (instance attrs p x) ∷ instance_steps valued ms inner at x
     item_walk (generate attrs p mark) at n = item at (generate attrs p mark) ∷ []
     item_walk (for_loop attrs p head b) at n =
         let label = block_name at.names n (label_of b) in
@@ -368,16 +384,21 @@ module _ (valued : Valued) (ms : List Module) (inner : Unfolding) where
 
     -- a turn of a loop
     pub turn_walk : Block → Place → List ℕ → List Step
-    turn_walk (begin p label xs) at path = items_walk xs (block_place at path xs) 1
-    turn_walk (region p xs) at path = items_walk xs (block_place at path xs) 1
-    turn_walk (single x) at path = item_walk x (block_place at path (more_items x no_items)) 1
+    turn_walk (begin p label xs) at path =
+        block_step at (begin p label xs) ∷ items_walk xs (block_place at path xs) 1
+    turn_walk (region p xs) at path = block_step at (region p xs) ∷ items_walk xs (block_place at path xs) 1
+    turn_walk (single x) at path =
+        block_step at (single x) ∷ item_walk x (block_place at path (more_items x no_items)) 1
 
     -- the chosen block of an `if`
     pub block_walk : Block → Place → ℕ → List Step
     block_walk (begin p label xs) at n =
-        items_walk xs (block_place at (block_path at (block_name at.names n label)) xs) 1
-    block_walk (region p xs) at n = items_walk xs (block_place at (block_path at (block_name at.names n None)) xs) 1
-    block_walk (single x) at n = item_walk x (single_place at n x) (single_number n x)
+        block_step at (begin p label xs)
+        ∷ items_walk xs (block_place at (block_path at (block_name at.names n label)) xs) 1
+    block_walk (region p xs) at n =
+        block_step at (region p xs)
+        ∷ items_walk xs (block_place at (block_path at (block_name at.names n None)) xs) 1
+    block_walk (single x) at n = block_step at (single x) ∷ item_walk x (single_place at n x) (single_number n x)
 
 -- ---- the whole
 

@@ -46,6 +46,7 @@ use Rattle.vl_mean.specs.Parts.{Part, declares, equation, combinational, clocked
 use Rattle.vl_mean.specs.Parts.{step_parts, parts_of_steps, design}
 use Rattle.vl_mean.specs.Runs.{Each}
 use Rattle.vl_mean.specs.Scopes.{Scope, constant_in}
+use Rattle.vl_mean.specs.Walk.{has_any}
 use Rattle.vl_mean.specs.Walk.{Place, Use, Step, Unfolding, with_earlier, module_named, module_parameters}
 use Rattle.vl_mean.specs.Walk.{module_place, module_scope, parameter_names, port_names, written_ports, header_steps}
 use Rattle.vl_mean.specs.Walk.{port_step, optional_name, port_steps, use_of, connections_of, override_steps}
@@ -215,7 +216,7 @@ module _ (es : List Decl) where
       laid_item (instance attrs p x) at n s h = (
         s,
         laid_module (module_named ms x.definition) _ (λ m k.
-            let u : Use = use_of at.scopes x in
+            let u : Use = use_of has_any at.scopes x in
             given m u _ at.modules _ (λ j.
             both (StepScopes (AreScopes es)) (override_steps at m u [] (connections_of x.overrides)) _
             (laid_overrides at m u [] (connections_of x.overrides) s)
@@ -251,30 +252,32 @@ module _ (es : List Decl) where
       laid_turn : (b : Block) (at : Place) (path : List ℕ) → AreScopes es at.scopes
           → In (turn_steps ms inner b at path) → Laid (turn_steps ms inner b at path)
       laid_turn (begin p label xs) at path s h =
-          laid_items xs (block_place at path xs) 1 (declared_items xs (block_place at path xs) 1 h, s) h
+          (s, laid_items xs (block_place at path xs) 1 (declared_items xs (block_place at path xs) 1 h.1, s) h.1)
       laid_turn (region p xs) at path s h =
-          laid_items xs (block_place at path xs) 1 (declared_items xs (block_place at path xs) 1 h, s) h
+          (s, laid_items xs (block_place at path xs) 1 (declared_items xs (block_place at path xs) 1 h.1, s) h.1)
       laid_turn (single x) at path s h =
           let inside : Place = block_place at path (more_items x no_items) in
-          laid_item x inside 1 (of_append path (declared_by inside.around x) [] (declared_item x inside 1 h) tt, s) h
+          (s, laid_item x inside 1 (of_append path (declared_by inside.around x) [] (declared_item x inside 1 h.1) tt, s) h.1)
 
       laid_inside : (b : Block) (at : Place) (n : ℕ) → AreScopes es at.scopes → In (block_steps ms inner b at n)
           → Laid (block_steps ms inner b at n)
       laid_inside (begin p label xs) at n s h =
           let inside : Place = block_place at (block_path at (block_name at.names n label)) xs in
-          laid_items xs inside 1 (declared_items xs inside 1 h, s) h
+          (s, laid_items xs inside 1 (declared_items xs inside 1 h.1, s) h.1)
       laid_inside (region p xs) at n s h =
           let inside : Place = block_place at (block_path at (block_name at.names n None)) xs in
-          laid_items xs inside 1 (declared_items xs inside 1 h, s) h
+          (s, laid_items xs inside 1 (declared_items xs inside 1 h.1, s) h.1)
       laid_inside (single x) at n s h =
-          let inside : Place = block_place at (block_path at (block_name at.names n None)) (more_items x no_items) in
-          laid_place (is_if x) x at inside (single_number n x) (λ k. laid_item x at (single_number n x) s k)
-          (λ k. laid_item x inside (single_number n x) (
-            of_append inside.path (declared_by inside.around x) []
-                (declared_item x inside (single_number n x) k) tt,
+          let inside : Place = block_place at (block_path at (block_name at.names n None)) (more_items x no_items) in (
             s,
-          ) k)
-          h
+            laid_place (is_if x) x at inside (single_number n x) (λ k. laid_item x at (single_number n x) s k)
+                (λ k. laid_item x inside (single_number n x) (
+                  of_append inside.path (declared_by inside.around x) []
+                      (declared_item x inside (single_number n x) k) tt,
+                  s,
+                ) k)
+                h.1,
+          )
 
   -- ---- modules
 

@@ -38,7 +38,9 @@ use Rattle.vl_mean.specs.Constants.{constant_operand}
 use Rattle.vl_mean.specs.Declarations.{block_name, constructs, full_port, is_if, label_of, names_of, ports_of}
 use Rattle.vl_mean.specs.Parts.{parts_of_steps, step_parts}
 use Rattle.vl_mean.specs.Scopes.{Scope, constant_in}
-use Rattle.vl_mean.specs.Walk.{Contents, Place, Step, Unfolding, Use, header, item, override, connection}
+use Rattle.vl_mean.specs.Walk.{all_valued}
+use Rattle.vl_mean.specs.Walk.{has_any}
+use Rattle.vl_mean.specs.Walk.{Contents, Place, Step, Unfolding, Use, header, item, override, connection, block_step}
 use Rattle.vl_mean.specs.Walk.{with_earlier, module_named, module_parameters, module_place, module_scope}
 use Rattle.vl_mean.specs.Walk.{parameter_names}
 use Rattle.vl_mean.specs.Walk.{port_names, written_ports, header_steps, port_step, optional_name, port_steps, use_of}
@@ -46,7 +48,7 @@ use Rattle.vl_mean.specs.Walk.{connections_of, override_steps, connection_steps,
 use Rattle.vl_mean.specs.Walk.{turn_place}
 use Rattle.vl_mean.specs.Walk.{no_contents, turns, goes_on, next_turn, first_turn, turn_path, block_place}
 use Rattle.vl_mean.specs.Walk.{block_path, single_number, item_steps, items_steps, turn_steps, block_steps}
-use Rattle.vl_mean.specs.Walk.{module_contents}
+use Rattle.vl_mean.specs.Walk.{items_contents, module_contents}
 use Rattle.vl_mean_flat.specs.DriverPlaces.{places_of_step, places_of_steps}
 use Rattle.vl_mean_flat.specs.Seen.{beside, inner, parts_of_seen, places_of_seen, seen_step, seen_steps}
 
@@ -115,23 +117,23 @@ module _ (at : Place) (contents : List Contents) (earlier modules : List (List �
       (connections_alike m u inside (given ++ x.port ∷ []) xs)
 
   instance_alike : (ms : List Module) (f : Unfolding) → IsAlike f → (x : Instance)
-      → seen_steps (instance_steps ms f at x) ≡ seen_steps (instance_steps ms f (beside at contents earlier modules) x)
+      → seen_steps (instance_steps all_valued ms f at x) ≡ seen_steps (instance_steps all_valued ms f (beside at contents earlier modules) x)
   instance_alike ms f a x = by (module_named ms x.definition)
     where
       by : (o : Option Module)
           → seen_steps (with_module o (λ m.
-          f m (use_of at.scopes x) (at.path ++ x.name ++ codes ".") at.modules
-          (override_steps at m (use_of at.scopes x) [] (connections_of x.overrides)
-          ++ connection_steps at m (use_of at.scopes x)
-          (module_scope m (use_of at.scopes x) (at.path ++ x.name ++ codes ".") ∷ []) [] x.connections)))
+          f m (use_of has_any at.scopes x) (at.path ++ x.name ++ codes ".") at.modules
+          (override_steps at m (use_of has_any at.scopes x) [] (connections_of x.overrides)
+          ++ connection_steps at m (use_of has_any at.scopes x)
+          (module_scope m (use_of has_any at.scopes x) (at.path ++ x.name ++ codes ".") ∷ []) [] x.connections)))
           ≡ seen_steps (with_module o (λ m.
-          f m (use_of at.scopes x) (at.path ++ x.name ++ codes ".") modules
-          (override_steps (beside at contents earlier modules) m (use_of at.scopes x) [] (connections_of x.overrides)
-          ++ connection_steps (beside at contents earlier modules) m (use_of at.scopes x)
-          (module_scope m (use_of at.scopes x) (at.path ++ x.name ++ codes ".") ∷ []) [] x.connections)))
+          f m (use_of has_any at.scopes x) (at.path ++ x.name ++ codes ".") modules
+          (override_steps (beside at contents earlier modules) m (use_of has_any at.scopes x) [] (connections_of x.overrides)
+          ++ connection_steps (beside at contents earlier modules) m (use_of has_any at.scopes x)
+          (module_scope m (use_of has_any at.scopes x) (at.path ++ x.name ++ codes ".") ∷ []) [] x.connections)))
       by None = refl
       by (Some m) =
-          let u : Use = use_of at.scopes x in
+          let u : Use = use_of has_any at.scopes x in
           let inside : List Scope = module_scope m u (at.path ++ x.name ++ codes ".") ∷ [] in
           a.alike m u (at.path ++ x.name ++ codes ".") at.modules modules _ _
           (both (override_steps at m u [] (connections_of x.overrides))
@@ -141,10 +143,6 @@ module _ (at : Place) (contents : List Contents) (earlier modules : List (List �
           (overrides_alike m u [] (connections_of x.overrides)) (connections_alike m u inside [] x.connections))
 
 -- ---- items
-
--- what a block with these items is made from
-abbrev made : Items → Contents
-made xs = record { overrides = []; parameters = []; ports = []; items = xs }
 
 module _ (ms : List Module) (f : Unfolding) (a : IsAlike f) where
   -- an item alone in a block of an `if`
@@ -177,8 +175,8 @@ module _ (ms : List Module) (f : Unfolding) (a : IsAlike f) where
         (turns_alike 4096 (goes_on head at.scopes) (next_turn head at.scopes)
         (λ c. turn_steps ms f b (turn_place at head.variable c) (turn_path at.path label c))
         (λ c. turn_steps ms f b (turn_place there head.variable c) (turn_path at.path label c))
-        (λ c. turn_alike b (turn_place at head.variable c) (turn_path at.path label c) (no_contents ∷ contents) earlier
-        modules) (first_turn head at.scopes))
+        (λ c. turn_alike b (turn_place at head.variable c) (turn_path at.path label c) (no_contents earlier ∷ contents)
+        earlier modules) (first_turn head at.scopes))
     item_alike (if_only attrs p c b) at n contents earlier modules =
         ap (λ ys. seen_step (item at (if_only attrs p c b)) ∷ ys)
         (chosen (is_true (constant_operand (constant_in at.scopes) c)) (block_steps ms f b at n)
@@ -206,29 +204,35 @@ module _ (ms : List Module) (f : Unfolding) (a : IsAlike f) where
         → seen_steps (turn_steps ms f b at path)
         ≡ seen_steps (turn_steps ms f b (beside at contents earlier modules) path)
     turn_alike (begin p label xs) at path contents earlier modules =
-        items_alike xs (block_place at path xs) 1 (made xs ∷ contents) [] modules
+        ap (λ ys. seen_step (block_step at (begin p label xs)) ∷ ys)
+        (items_alike xs (block_place at path xs) 1 (items_contents earlier xs ∷ contents) [] modules)
     turn_alike (region p xs) at path contents earlier modules =
-        items_alike xs (block_place at path xs) 1 (made xs ∷ contents) [] modules
+        ap (λ ys. seen_step (block_step at (region p xs)) ∷ ys)
+        (items_alike xs (block_place at path xs) 1 (items_contents earlier xs ∷ contents) [] modules)
     turn_alike (single x) at path contents earlier modules =
         let xs : Items = more_items x no_items in
-        item_alike x (block_place at path xs) 1 (made xs ∷ contents) [] modules
+        ap (λ ys. seen_step (block_step at (single x)) ∷ ys)
+        (item_alike x (block_place at path xs) 1 (items_contents earlier xs ∷ contents) [] modules)
 
     block_alike : (b : Block) (at : Place) (n : ℕ) (contents : List Contents) (earlier modules : List (List ℕ))
         → seen_steps (block_steps ms f b at n)
         ≡ seen_steps (block_steps ms f b (beside at contents earlier modules) n)
     block_alike (begin p label xs) at n contents earlier modules =
-        items_alike xs (block_place at (block_path at (block_name at.names n label)) xs) 1 (made xs ∷ contents) []
-        modules
+        ap (λ ys. seen_step (block_step at (begin p label xs)) ∷ ys)
+        (items_alike xs (block_place at (block_path at (block_name at.names n label)) xs) 1
+        (items_contents earlier xs ∷ contents) [] modules)
     block_alike (region p xs) at n contents earlier modules =
-        items_alike xs (block_place at (block_path at (block_name at.names n None)) xs) 1 (made xs ∷ contents) []
-        modules
+        ap (λ ys. seen_step (block_step at (region p xs)) ∷ ys)
+        (items_alike xs (block_place at (block_path at (block_name at.names n None)) xs) 1
+        (items_contents earlier xs ∷ contents) [] modules)
     block_alike (single x) at n contents earlier modules =
         let xs : Items = more_items x no_items in
         let path : List ℕ = block_path at (block_name at.names n None) in
-        single_alike x (is_if x) at (block_place at path xs) (beside at contents earlier modules)
+        ap (λ ys. seen_step (block_step at (single x)) ∷ ys)
+        (single_alike x (is_if x) at (block_place at path xs) (beside at contents earlier modules)
         (block_place (beside at contents earlier modules) path xs) (single_number n x)
         (item_alike x at (single_number n x) contents earlier modules)
-        (item_alike x (block_place at path xs) (single_number n x) (made xs ∷ contents) [] modules)
+        (item_alike x (block_place at path xs) (single_number n x) (items_contents earlier xs ∷ contents) [] modules))
 
 -- ---- modules
 

@@ -22,7 +22,7 @@ use Rattle.vl_mean.specs.Parts.{block_part, initial_parts, all_initial_parts, ta
 use Rattle.vl_mean.specs.Parts.{port_part, item_parts, step_parts, parts_of_steps}
 use Rattle.vl_mean.specs.Runs.{Each}
 use Rattle.vl_mean.specs.Scopes.{Scope, is_clock}
-use Rattle.vl_mean.specs.Walk.{Place, Step, header, port, item, override, connection}
+use Rattle.vl_mean.specs.Walk.{Place, Step, header, port, item, override, connection, block_step}
 use Rattle.vl_mean_flat.specs.StepScopes.{StepScopes, PartScopes}
 use Rattle.vl_mean_flat.proofs.EachOf.{both}
 
@@ -120,6 +120,7 @@ module _ (P : List Scope → Type 0) where
       (tt, tt) (of_optional at.scopes h (port_kind q.net) q.name q.value)
   of_step (item at x) h = of_item at x h
   of_step (override at m u given x) h = tt
+  of_step (block_step at b) h = tt
   of_step (connection at m u inside given x) h =
       of_connection at.scopes h.0 inside h.1 (port_named (ports_of m.ports) x.port) x.value
 

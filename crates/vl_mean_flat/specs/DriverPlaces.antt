@@ -13,7 +13,7 @@ use Rattle.vl_mean.specs.Declarations.{port_name_pos, port_named, ports_of}
 use Rattle.vl_mean.specs.Parts.{Part, declares, equation, combinational, clocked, starts}
 use Rattle.vl_mean.specs.Parts.{assignments, block_part, optional_value, port_kind, port_part}
 use Rattle.vl_mean.specs.Scopes.{Scope}
-use Rattle.vl_mean.specs.Walk.{Step, header, port, item, override, connection, walk}
+use Rattle.vl_mean.specs.Walk.{Step, header, port, item, override, connection, block_step, walk}
 
 -- the places of the drivers among parts that all stand at one place
 abbrev pub all_at : Pos → List Part → List Pos
@@ -43,6 +43,7 @@ places_of_step (port at u p q) =
     all_at (port_name_pos p) (optional_value at.scopes (port_kind q.net) q.name q.value)
 places_of_step (item at x) = item_places at.scopes x
 places_of_step (override at m u given x) = []
+places_of_step (block_step at b) = []
 places_of_step (connection at m u inside given x) =
     all_at x.pos (port_part at.scopes inside (port_named (ports_of m.ports) x.port) x.value)
 

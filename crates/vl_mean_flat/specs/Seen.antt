@@ -5,7 +5,8 @@ use Rattle.fv_text.specs.declared.pos.Pos.{Pos}
 use Rattle.vl_tree.specs.declared.source.Module.{Module}
 use Rattle.vl_mean.specs.Parts.{Part, step_parts}
 use Rattle.vl_mean.specs.Scopes.{Scope}
-use Rattle.vl_mean.specs.Walk.{Contents, Place, Step, Unfolding, header, port, item, override, connection, unfolded}
+use Rattle.vl_mean.specs.Walk.{Contents, Place, Step, Unfolding, header, port, item, override, connection, block_step}
+use Rattle.vl_mean.specs.Walk.{unfolded}
 use Rattle.vl_mean_flat.specs.DriverPlaces.{places_of_step}
 
 pub record Seen : Type 0 where
@@ -20,6 +21,7 @@ scopes_of (port at u p q) = at.scopes ∷ []
 scopes_of (item at x) = at.scopes ∷ []
 scopes_of (override at m u given x) = at.scopes ∷ []
 scopes_of (connection at m u inside given x) = at.scopes ∷ inside ∷ []
+scopes_of (block_step at b) = at.scopes ∷ []
 
 abbrev pub seen_step : Step → Seen
 seen_step x = record { parts = step_parts x; places = places_of_step x; scopes = scopes_of x }

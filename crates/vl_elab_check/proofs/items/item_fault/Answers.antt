@@ -27,7 +27,7 @@ returns-in-Declaration-clause-fault c =
     let y = declaration c.as_slice-attributes.result.now p c.in-Declaration.declaration in
     let same = sym c.item.view_is ∙ ap (shown attrs p) c.in-Declaration.is
     ∙ ap (λ list. declaration list p c.in-Declaration.declaration) (sym c.as_slice-attributes.ensures) in
-    IfOk-weaker c.declaration_fault.result _ _ (λ g h at here path.
+    IfOk-weaker c.declaration_fault.result _ _ (λ g h at here said path.
     refused_as x y same c.args.source.now.modules.now at g
     (h (meanings_at at) at.earlier here.alike here.before)) c.declaration_fault.ensures.fault
 
@@ -61,7 +61,7 @@ returns-in-Integer-clause-fault c =
     let y = integer c.as_slice-attributes-in-Integer.result.now p c.as_slice.result.now in
     let same = sym c.item.view_is ∙ ap (shown attrs p) c.in-Integer.is
     ∙ (λ i. integer (sym c.as_slice-attributes-in-Integer.ensures i) p (sym c.as_slice.ensures i)) in
-    IfOk-weaker c.integer_fault.result _ _ (λ g h at here path.
+    IfOk-weaker c.integer_fault.result _ _ (λ g h at here said path.
     refused_as x y same c.args.source.now.modules.now at g
     (h (meanings_at at) at.earlier here.alike here.before)) c.integer_fault.ensures.fault
 
@@ -95,7 +95,7 @@ returns-in-Genvar-clause-fault c =
     let y = genvar attrs p c.as_slice-in-Genvar.result.now in
     let same = sym c.item.view_is ∙ ap (shown attrs p) c.in-Genvar.is
     ∙ ap (genvar attrs p) (sym c.as_slice-in-Genvar.ensures) in
-    IfOk-weaker c.genvar_names_fault.result _ _ (λ g h at here path.
+    IfOk-weaker c.genvar_names_fault.result _ _ (λ g h at here said path.
     refused_as x y same c.args.source.now.modules.now at g
     (h at.earlier here.before)) c.genvar_names_fault.ensures.fault
 
@@ -129,9 +129,9 @@ returns-in-Parameter-clause-fault c =
     let y = parameter attrs p c.in-Parameter.kind c.as_slice-in-Parameter.result.now in
     let same = sym c.item.view_is ∙ ap (shown attrs p) c.in-Parameter.is
     ∙ ap (parameter attrs p c.in-Parameter.kind) (sym c.as_slice-in-Parameter.ensures) in
-    IfOk-weaker c.parameters_fault.result _ _ (λ g h at here path.
+    IfOk-weaker c.parameters_fault.result _ _ (λ g h at here said path.
     refused_as x y same c.args.source.now.modules.now at g
-    (h at at.earlier here.alike here.before here.parameters here.overrides)) c.parameters_fault.ensures.fault
+    (h at at.earlier here.alike said here.before here.parameters here.overrides)) c.parameters_fault.ensures.fault
 
 pub returns-in-Parameter-clause-earlier : goal.returns-in-Parameter-clause-earlier
 returns-in-Parameter-clause-earlier c =
@@ -164,7 +164,7 @@ returns-in-Assign-clause-fault c =
     let y = assign attrs p c.as_slice-in-Assign.result.now in
     let same = sym c.item.view_is ∙ ap (shown attrs p) c.in-Assign.is
     ∙ ap (assign attrs p) (sym c.as_slice-in-Assign.ensures) in
-    IfOk-weaker c.assign_fault.result _ _ (λ g h at here path.
+    IfOk-weaker c.assign_fault.result _ _ (λ g h at here said path.
     refused_as x y same c.args.source.now.modules.now at g
     (h (meanings_at at) here.alike)) c.assign_fault.ensures
 
@@ -197,7 +197,7 @@ returns-in-Always-clause-fault c =
     let p = c.item.inside.pos in
     let y = always attrs p c.in-Always.event c.in-Always.stmt in
     let same = sym c.item.view_is ∙ ap (shown attrs p) c.in-Always.is in
-    IfOk-weaker c.always_fault.result _ _ (λ g h at here path.
+    IfOk-weaker c.always_fault.result _ _ (λ g h at here said path.
     refused_as x y same c.args.source.now.modules.now at g
     (h (meanings_at at) here.alike)) c.always_fault.ensures
 
@@ -228,7 +228,7 @@ returns-in-Initial-clause-fault c =
     let p = c.item.inside.pos in
     let y = initial attrs p c.in-Initial.stmt in
     let same = sym c.item.view_is ∙ ap (shown attrs p) c.in-Initial.is in
-    IfOk-weaker c.initial_block_fault.result _ _ (λ g h at here path.
+    IfOk-weaker c.initial_block_fault.result _ _ (λ g h at here said path.
     refused_as x y same c.args.source.now.modules.now at g
     (h (meanings_at at) here.alike)) c.initial_block_fault.ensures
 
@@ -259,7 +259,7 @@ returns-in-Instance-clause-fault c =
     let p = c.item.inside.pos in
     let y = instance attrs p c.in-Instance.instance in
     let same = sym c.item.view_is ∙ ap (shown attrs p) c.in-Instance.is in
-    IfOk-weaker c.instance_fault.result _ _ (λ g h at here path.
+    IfOk-weaker c.instance_fault.result _ _ (λ g h at here said path.
     refused_as x y same c.args.source.now.modules.now at g
     (h at here.before path)) c.instance_fault.ensures
 
@@ -284,7 +284,7 @@ returns-in-Instance-clause-reached c =
     reached_as x y same c.args.here.now.reached at before (none_reached c.args.here.now.reached at before reached))
 
 pub returns-in-Generate-clause-fault : goal.returns-in-Generate-clause-fault
-returns-in-Generate-clause-fault c at here path =
+returns-in-Generate-clause-fault c at here said path =
     let x = c.args.item.now in
     let attrs = c.item.inside.attributes in
     let p = c.item.inside.pos in
@@ -318,7 +318,7 @@ returns-in-For-clause-fault c =
     let p = c.item.inside.pos in
     let y = for_loop attrs p c.in-For.head (block c.in-For.field-1) in
     let same = sym c.item.view_is ∙ ap (shown attrs p) c.in-For.is in
-    IfOk-weaker c.loop_fault.result _ _ (λ g h at here path.
+    IfOk-weaker c.loop_fault.result _ _ (λ g h at here said path.
     loop_refused x attrs p c.in-For.head (block c.in-For.field-1) same c.args.source.now.modules.now at g
     (h at here.alike here.constants here.before)) c.loop_fault.ensures.fault
 
@@ -349,7 +349,7 @@ returns-in-If-default-default-None-clause-fault c =
     let attrs = c.item.inside.attributes in
     let p = c.item.inside.pos in
     let same = sym c.item.view_is ∙ ap (shown attrs p) arm.is in
-    IfOk-weaker c.if_fault.result _ _ (λ g h at here path.
+    IfOk-weaker c.if_fault.result _ _ (λ g h at here said path.
     if_refused x attrs p arm.condition arm.field-1 arm.field-2 same c.args.source.now.modules.now at g
     (h (meanings_at at) at.earlier here.alike here.before)) c.if_fault.ensures
 
@@ -380,7 +380,7 @@ returns-in-If-default-default-Some-clause-fault c =
     let attrs = c.item.inside.attributes in
     let p = c.item.inside.pos in
     let same = sym c.item.view_is ∙ ap (shown attrs p) arm.is in
-    IfOk-weaker c.if_fault-in-If-default-default-Some.result _ _ (λ g h at here path.
+    IfOk-weaker c.if_fault-in-If-default-default-Some.result _ _ (λ g h at here said path.
     if_refused x attrs p arm.condition arm.field-1 arm.field-2 same c.args.source.now.modules.now at g
     (h (meanings_at at) at.earlier here.alike here.before)) c.if_fault-in-If-default-default-Some.ensures
 

@@ -16,7 +16,7 @@ returns-clause-inside c =
     same_inside c.args.inside.now c.item_fault.new.inside
     (c.in_ok-fault.ensures.names ∙ c.in_ok-pos.ensures.names ∙ c.in_ok-added.ensures.meanings)
     (c.in_ok-fault.ensures.numbers ∙ c.in_ok-pos.ensures.numbers ∙ c.in_ok-added.ensures.numbers)
-    c.in_ok-fault.ensures.clocks
+    c.in_ok-fault.ensures.clocks c.in_ok-fault.ensures.around
 
 pub returns-clause-here : goal.returns-clause-here
 returns-clause-here c at h =
@@ -48,5 +48,5 @@ returns-clause-walked c at t h known =
     (sym (c.in_ok-pos.ensures.names ∙ c.in_ok-added.ensures.meanings))
     (subst (λ ns. IsAt c.args.inside.now.names ns before.earlier before.reached before.given at)
     (sym (c.in_ok-pos.ensures.numbers ∙ c.in_ok-added.ensures.numbers)) here) in
-    c.weighed.ensures c.args.source.now.modules.now (item at x) t (c.in_ok-fault.ensures.fault at still h.within.modules) nodes
+    c.weighed.ensures c.args.source.now.modules.now (item at x) t (c.in_ok-fault.ensures.fault at still h.within.around h.within.modules) nodes
     names place known

@@ -23,16 +23,18 @@ use Rattle.vl_elab_spec.specs.Within.{IsNotRecursive, behind_head, chosen_by, de
 use Rattle.vl_elab_spec.proofs.Behind.{items_end, items_on, items_stop, turns_end, turns_gone, turns_on, turns_stop}
 use Rattle.vl_elab_spec.proofs.Inner.{by_is, nested_is}
 use Rattle.vl_elab_spec.proofs.Unfolded.{named_is}
-use Rattle.vl_elab_check.specs.Standing.{HasScope, IsHere, IsSoFar, IsWithin}
-use Rattle.vl_elab_check.proofs.Going.{all_items, first_turn_left, if_names, items_formed, leaf_walked}
-use Rattle.vl_elab_check.proofs.Going.{nested_walked, none_chosen, none_of}
+use Rattle.vl_elab_decls.specs.declared.scopes.Inside.{Inside}
+use Rattle.vl_elab_check.specs.Standing.{HasScope, IsHanded, IsHere, IsSoFar, IsWithin}
+use Rattle.vl_elab_check.proofs.Going.{all_items, block_stops, first_turn_left, if_names, items_formed}
+use Rattle.vl_elab_check.proofs.Going.{leaf_walked, nested_walked, none_chosen, none_of}
 use Rattle.vl_elab_check.proofs.Going.{opening_passes, opening_stops, own_passes, own_stops, scope_walked, some_chosen}
-use Rattle.vl_elab_check.proofs.Going.{bare_walked, deep_walked, module_walked, not_around, turn_walked}
+use Rattle.vl_elab_check.proofs.Going.{bare_walked, deep_walked, module_walked, not_around, turn_stops, turn_walked}
 use Rattle.vl_elab_check.proofs.Going.{unnamed_walked}
 use Rattle.vl_elab_check.proofs.Depths.{module_below, part_depth, slice_depth}
 use Rattle.vl_elab_check.proofs.Going.{if_depth, none_within}
 use Rattle.vl_elab_check.proofs.Places.{scope_again, scope_left, stays_here, stays_within}
-use Rattle.vl_elab_check.proofs.Places.{turn_entered, turn_left, within_again}
+use Rattle.vl_elab_check.proofs.Places.{around_again, block_handed, here_again, reached_again, same_reached}
+use Rattle.vl_elab_check.proofs.Places.{turn_around, turn_handed, turn_left, within_again}
 use Rattle.vl_elab_check.proofs.walk.+walk.Goals as goal
 
 -- ---- the items of a scope
@@ -173,14 +175,14 @@ walk_within-returns-in_ok-walk_turns-in-For-clause-walked z c =
     → AreWalked ms t c.walk_turns.new.walk.totals (inner_walk is_valued ms inner x at n) g) same
     (λ t at n so w free h. c.in_ok-walk_turns-in-For.ensures.walked t at
     (λ v. turn_path at.path (block_name at.names n (label_of b)) v) so w.2
-    (stays_within c.args.inside.now c.args.walk.now.path at [] h.within))
+    (stays_here c.args.inside.now c.args.here.now c.args.walk.now.path at h))
 
 pub walk_within-returns-in_ok-walk_turns-in-For-clause-here :
     goal.walk_within-returns-in_ok-walk_turns-in-For-clause-here
 walk_within-returns-in_ok-walk_turns-in-For-clause-here z c at h =
-    let here = c.args.here.now in
-    subst (λ i. IsHere i here c.walk_turns.new.walk.path at) (sym c.in_ok-walk_turns-in-For.ensures.inside)
-    (subst (λ p. IsHere c.args.inside.now here p at) (sym c.in_ok-walk_turns-in-For.ensures.path) h)
+    here_again c.args.inside.now c.walk_turns.new.inside c.args.here.now c.walk_turns.new.here c.args.walk.now.path
+    c.walk_turns.new.walk.path at c.in_ok-walk_turns-in-For.ensures.inside c.in_ok-walk_turns-in-For.ensures.here
+    c.in_ok-walk_turns-in-For.ensures.path h
 
 pub walk_within-returns-in_ok-walk_if-in-If-clause-walked : goal.walk_within-returns-in_ok-walk_if-in-If-clause-walked
 walk_within-returns-in_ok-walk_if-in-If-clause-walked z c =
@@ -300,42 +302,59 @@ walk_if-returns-in_ok-walk_block-in-Some-clause-walked z c t at n a p so w h =
 
 -- ---- blocks
 
-pub walk_block-returns-in_ok-walk_scope-in-None-clause-walked :
-    goal.walk_block-returns-in_ok-walk_scope-in-None-clause-walked
-walk_block-returns-in_ok-walk_scope-in-None-clause-walked z c t at n so w h =
+pub walk_block-returns-then-is_some-clause-inside : goal.walk_block-returns-then-is_some-clause-inside
+walk_block-returns-then-is_some-clause-inside z c = refl
+
+pub walk_block-returns-then-is_some-clause-path : goal.walk_block-returns-then-is_some-clause-path
+walk_block-returns-then-is_some-clause-path z c = c.begin_block-own.ensures.path
+
+pub walk_block-returns-then-is_some-clause-here : goal.walk_block-returns-then-is_some-clause-here
+walk_block-returns-then-is_some-clause-here z c at h =
+    subst (λ p. IsHere c.args.inside.now c.args.here.now p at) (sym c.begin_block-own.ensures.path) h
+
+pub walk_block-returns-then-is_some-clause-walked : goal.walk_block-returns-then-is_some-clause-walked
+walk_block-returns-then-is_some-clause-walked z c t at n so w h =
+    let ms = c.args.source.now.modules.now in
+    block_stops ms c.args.source.now.fuel (block c.args.block.now) at n t c.begin_block-own.new.walk.totals
+    c.begin_block-own.result (sym c.is_some.ensures ∙ c.if-is_some.true)
+    (c.begin_block-own.ensures.walked ms t at so.totals)
+
+pub walk_block-returns-in-None-clause-walked : goal.walk_block-returns-in-None-clause-walked
+walk_block-returns-in-None-clause-walked z c t at n so w h =
+    let ms = c.args.source.now.modules.now in
+    let fuel = c.args.source.now.fuel in
     let b = block c.args.block.now in
     let xs = items c.items_of.result.now in
-    scope_walked c.args.source.now.modules.now c.args.source.now.fuel b xs at n t c.walk_scope.new.walk.totals
-    c.in_ok-walk_scope-in-None.field-0 c.items_of.ensures
+    scope_walked ms fuel b at t c.begin_block-own.new.walk.totals c.walk_inner.new.walk.totals c.begin_block-own.result
+    c.in_ok-walk_inner-in-None.field-0 (sym c.is_some.ensures ∙ c.if-is_some.false)
+    (c.begin_block-own.ensures.walked ms t at so.totals) xs n c.items_of.ensures
     (sym (sym (ap option_copied c.in-None.is) ∙ c.nested.ensures))
-    (λ text. c.in_ok-walk_scope-in-None.ensures.walked t at text so
-    (items_formed c.args.source.now.modules.now c.args.source.now.fuel b xs c.items_of.ensures w) h.within)
+    (λ text k totals. c.in_ok-walk_inner-in-None.ensures.walked k at text
+    (record { formed = so.formed; totals = totals }) (items_formed ms fuel b xs c.items_of.ensures w)
+    (subst (λ p. IsHere c.args.inside.now c.args.here.now p at) (sym c.begin_block-own.ensures.path) h))
 
-pub walk_block-returns-in_ok-walk_scope-in-None-clause-here :
-    goal.walk_block-returns-in_ok-walk_scope-in-None-clause-here
-walk_block-returns-in_ok-walk_scope-in-None-clause-here z c at h =
-    let here = c.args.here.now in
-    subst (λ i. IsHere i here c.walk_scope.new.walk.path at) (sym c.in_ok-walk_scope-in-None.ensures.inside)
-    (subst (λ p. IsHere c.args.inside.now here p at) (sym c.in_ok-walk_scope-in-None.ensures.path) h)
-
-pub walk_block-returns-in_ok-walk_one-in-Some-clause-walked :
-    goal.walk_block-returns-in_ok-walk_one-in-Some-clause-walked
-walk_block-returns-in_ok-walk_one-in-Some-clause-walked z c t at n so w h =
+pub walk_block-returns-clause-walked : goal.walk_block-returns-clause-walked
+walk_block-returns-clause-walked z c t at n so w h =
+    let ms = c.args.source.now.modules.now in
     let b = block c.args.block.now in
     let x = c.in-Some.part.now in
     let some : nested_if b ≡ Some x = sym c.in-Some.ensures in
-    nested_walked c.args.source.now.modules.now c.args.source.now.fuel b x at n t c.walk_one.new.walk.totals
-    c.in_ok-walk_one-in-Some.field-0 some
-    (c.in_ok-walk_one-in-Some.ensures.walked t at n so ((nested_is b x some).formed w) h)
+    nested_walked ms c.args.source.now.fuel b at t c.begin_block-own.new.walk.totals c.walk_one.new.walk.totals
+    c.begin_block-own.result c.in_ok-walk_one-in-Some.field-0 (sym c.is_some.ensures ∙ c.if-is_some.false)
+    (c.begin_block-own.ensures.walked ms t at so.totals) x n some
+    (λ k totals. c.in_ok-walk_one-in-Some.ensures.walked k at n (record { formed = so.formed; totals = totals })
+    ((nested_is b x some).formed w)
+    (subst (λ p. IsHere c.args.inside.now c.args.here.now p at) (sym c.begin_block-own.ensures.path) h))
 
-pub walk_block-returns-in_ok-walk_one-in-Some-clause-here : goal.walk_block-returns-in_ok-walk_one-in-Some-clause-here
-walk_block-returns-in_ok-walk_one-in-Some-clause-here z c at h =
+pub walk_block-returns-clause-here : goal.walk_block-returns-clause-here
+walk_block-returns-clause-here z c at h =
     let b = block c.args.block.now in
     let x = c.in-Some.part.now in
     let some : nested_if b ≡ Some x = sym c.in-Some.ensures in
     stays_here c.walk_one.new.inside c.walk_one.new.here c.walk_one.new.walk.path at
     (subst (λ xs. IsHere c.walk_one.new.inside c.walk_one.new.here c.walk_one.new.walk.path
-    (with_earlier at xs)) (nested_is b x some).names (c.in_ok-walk_one-in-Some.ensures.here at h))
+    (with_earlier at xs)) (nested_is b x some).names (c.in_ok-walk_one-in-Some.ensures.here at
+    (subst (λ p. IsHere c.args.inside.now c.args.here.now p at) (sym c.begin_block-own.ensures.path) h)))
 
 -- ---- turns of a loop
 
@@ -343,10 +362,12 @@ pub walk_turns-loop-left-init : goal.walk_turns-loop-left-init
 walk_turns-loop-left-init z c = record {
   inside = c.in_ok-left.ensures.inside;
   path = refl;
+  here = refl;
   left = λ t at paths so w h.
       first_turn_left c.args.source.now.modules.now c.args.source.now.fuel (block c.args.block.now) c.args.head.now at paths
       c.args.walk.now.totals t c.in_ok-value.value c.in_ok-left.left so.totals
-      (c.in_ok-value.ensures at.scopes h.stands.numbers) (c.in_ok-left.ensures.limit at c.args.walk.now.path h);
+      (c.in_ok-value.ensures at.scopes h.within.stands.numbers)
+      (c.in_ok-left.ensures.limit at c.args.walk.now.path h.within);
 }
 
 pub walk_turns-loop-left-preserved : goal.walk_turns-loop-left-preserved
@@ -360,10 +381,12 @@ walk_turns-loop-left-preserved z c =
     record {
       inside = c.in_ok-walk_turn.ensures.inside ∙ kept;
       path = c.in_ok-walk_turn.ensures.path ∙ c.loop-left.invariant.path;
+      here = same_reached c.args.here.now c.loop-left.here c.walk_turn.new.reached c.in_ok-walk_turn.ensures.reached
+          c.loop-left.invariant.here;
       left = λ t at paths so w h.
           let within : IsWithin c.loop-left.inside c.loop-left.walk.path at =
           within_again c.args.inside.now c.loop-left.inside c.args.walk.now.path c.loop-left.walk.path at
-          c.loop-left.invariant.inside c.loop-left.invariant.path h in
+          c.loop-left.invariant.inside c.loop-left.invariant.path h.within in
           let body : Const → List Step = λ v. turn_walk is_valued ms inner b (turn_place at head.variable v) (paths v) in
           turns_on ms t (loop_walk is_valued head at body) (goes_on head at.scopes) (next_turn head at.scopes) body
           c.loop-left.walk.totals c.walk_turn.new.walk.totals c.loop-left.left c.loop-left.value c.in-Some.next
@@ -374,7 +397,8 @@ walk_turns-loop-left-preserved z c =
           (λ k totals. c.in_ok-walk_turn.ensures.walked k at (paths c.loop-left.value)
           (record { formed = so.formed; totals = totals }) w
           (within_again c.loop-left.inside c.next_value.new.inside c.loop-left.walk.path c.loop-left.walk.path at
-          c.in_ok-next.ensures.inside refl within));
+          c.in_ok-next.ensures.inside refl within)
+          (reached_again c.args.here.now c.loop-left.here at c.loop-left.invariant.here h.known.parameters));
     }
 
 pub walk_turns-returns-in_default-clause-inside : goal.walk_turns-returns-in_default-clause-inside
@@ -392,7 +416,7 @@ walk_turns-returns-in_default-clause-walked z c t at paths so w h =
     let positive : 0 < c.loop-left.left = omega (arith, c.loop-left-test.true) in
     let within : IsWithin c.loop-left.inside c.loop-left.walk.path at =
     within_again c.args.inside.now c.loop-left.inside c.args.walk.now.path c.loop-left.walk.path at
-    c.loop-left.invariant.inside c.loop-left.invariant.path h in
+    c.loop-left.invariant.inside c.loop-left.invariant.path h.within in
     let body : Const → List Step = λ v. turn_walk is_valued ms inner b (turn_place at head.variable v) (paths v) in
     turns_end ms t (loop_walk is_valued head at body) (goes_on head at.scopes) (next_turn head at.scopes) body
     c.loop-left.walk.totals c.loop-left.left c.loop-left.value positive
@@ -415,7 +439,7 @@ walk_turns-returns-in-Some-2-clause-walked z c t at paths so w h =
     let positive : 0 < c.loop-left.left = omega (arith, c.loop-left-test.true) in
     let within : IsWithin c.loop-left.inside c.loop-left.walk.path at =
     within_again c.args.inside.now c.loop-left.inside c.args.walk.now.path c.loop-left.walk.path at
-    c.loop-left.invariant.inside c.loop-left.invariant.path h in
+    c.loop-left.invariant.inside c.loop-left.invariant.path h.within in
     let body : Const → List Step = λ v. turn_walk is_valued ms inner b (turn_place at head.variable v) (paths v) in
     subst (AreWalked ms t c.walk_turn.new.walk.totals (loop_walk is_valued head at body)) c.in-Some-2.is
     (turns_stop ms t (loop_walk is_valued head at body) (goes_on head at.scopes) (next_turn head at.scopes) body
@@ -427,7 +451,8 @@ walk_turns-returns-in-Some-2-clause-walked z c t at paths so w h =
     (λ k totals. c.in_ok-walk_turn.ensures.walked k at (paths c.loop-left.value)
     (record { formed = so.formed; totals = totals }) w
     (within_again c.loop-left.inside c.next_value.new.inside c.loop-left.walk.path c.loop-left.walk.path at
-    c.in_ok-next.ensures.inside refl within)))
+    c.in_ok-next.ensures.inside refl within)
+    (reached_again c.args.here.now c.loop-left.here at c.loop-left.invariant.here h.known.parameters)))
 
 pub walk_turns-returns-clause-inside : goal.walk_turns-returns-clause-inside
 walk_turns-returns-clause-inside z c = c.loop-left.invariant.inside
@@ -446,28 +471,99 @@ walk_turns-returns-clause-walked z c t at paths so w h =
     turns_gone ms t (loop_walk is_valued head at body) (goes_on head at.scopes) (next_turn head at.scopes) body
     c.loop-left.walk.totals c.loop-left.left c.loop-left.value none (c.loop-left.invariant.left t at paths so w h)
 
+pub walk_turns-returns-in_default-clause-here : goal.walk_turns-returns-in_default-clause-here
+walk_turns-returns-in_default-clause-here z c = c.loop-left.invariant.here
+
+pub walk_turns-returns-in-Some-2-clause-here : goal.walk_turns-returns-in-Some-2-clause-here
+walk_turns-returns-in-Some-2-clause-here z c =
+    same_reached c.args.here.now c.loop-left.here c.walk_turn.new.reached c.in_ok-walk_turn.ensures.reached
+    c.loop-left.invariant.here
+
+pub walk_turns-returns-clause-here : goal.walk_turns-returns-clause-here
+walk_turns-returns-clause-here z c = c.loop-left.invariant.here
+
 pub walk_turn-returns-clause-inside : goal.walk_turn-returns-clause-inside
 walk_turn-returns-clause-inside z c =
-    turn_left c.args.inside.now c.enter.new.inside c.walk_scope.new.inside c.leave.new.inside c.args.head.now
-    c.args.value c.in_ok-enter.ensures c.in_ok-fault.ensures.inside c.leave.ensures
+    let r = c.args.reached.now in
+    turn_left c.args.inside.now c.enter.new.inside c.walk_scope.new.inside c.leave.new.inside r c.args.head.now
+    c.args.value c.in_ok-enter.ensures c.in_ok-fault.ensures.inside
+    (c.leave.ensures r c.args.inside.now.around
+    (turn_around c.args.inside.now c.enter.new.inside c.walk_scope.new.inside r c.args.head.now c.args.value
+    c.in_ok-enter.ensures c.in_ok-fault.ensures.inside)).1
+
+pub walk_turn-returns-clause-reached : goal.walk_turn-returns-clause-reached
+walk_turn-returns-clause-reached z c =
+    let r = c.args.reached.now in
+    (c.leave.ensures r c.args.inside.now.around
+    (turn_around c.args.inside.now c.enter.new.inside c.walk_scope.new.inside r c.args.head.now c.args.value
+    c.in_ok-enter.ensures c.in_ok-fault.ensures.inside)).0
+
+pub walk_turn-returns-then-is_some-clause-inside : goal.walk_turn-returns-then-is_some-clause-inside
+walk_turn-returns-then-is_some-clause-inside z c = refl
+
+pub walk_turn-returns-then-is_some-clause-path : goal.walk_turn-returns-then-is_some-clause-path
+walk_turn-returns-then-is_some-clause-path z c = c.begin_block-own.ensures.path
+
+pub walk_turn-returns-then-is_some-clause-reached : goal.walk_turn-returns-then-is_some-clause-reached
+walk_turn-returns-then-is_some-clause-reached z c = refl
+
+pub walk_turn-returns-then-is_some-clause-walked : goal.walk_turn-returns-then-is_some-clause-walked
+walk_turn-returns-then-is_some-clause-walked z c t at text so w h k =
+    let ms = c.args.source.now.modules.now in
+    let place : Place = turn_place at c.args.head.now.variable c.args.value in
+    turn_stops ms c.args.source.now.fuel (block c.args.block.now) place text t c.begin_block-own.new.walk.totals
+    c.begin_block-own.result (sym c.is_some.ensures ∙ c.if-is_some.true)
+    (c.begin_block-own.ensures.walked ms t place so.totals)
 
 pub walk_turn-returns-clause-walked : goal.walk_turn-returns-clause-walked
-walk_turn-returns-clause-walked z c t at text so w h =
+walk_turn-returns-clause-walked z c t at text so w h k =
+    let ms = c.args.source.now.modules.now in
+    let fuel = c.args.source.now.fuel in
     let b = block c.args.block.now in
     let xs = items c.items_of.result.now in
     let place : Place = turn_place at c.args.head.now.variable c.args.value in
-    turn_walked c.args.source.now.modules.now c.args.source.now.fuel b xs place text t c.walk_scope.new.walk.totals c.in_ok-fault.fault
-    c.items_of.ensures
-    (c.in_ok-fault.ensures.walked t place text so
-    (items_formed c.args.source.now.modules.now c.args.source.now.fuel b xs c.items_of.ensures w)
-    (subst (λ i. IsWithin i c.args.walk.now.path place) (sym c.in_ok-enter.ensures)
-    (turn_entered c.args.inside.now c.args.walk.now.path at h c.args.head.now c.args.value)))
+    turn_walked ms fuel b place t c.begin_block-own.new.walk.totals c.walk_scope.new.walk.totals c.begin_block-own.result
+    c.in_ok-fault.fault (sym c.is_some.ensures ∙ c.if-is_some.false)
+    (c.begin_block-own.ensures.walked ms t place so.totals) xs text c.items_of.ensures
+    (λ before totals. c.in_ok-fault.ensures.walked before place text (record { formed = so.formed; totals = totals })
+    (items_formed ms fuel b xs c.items_of.ensures w)
+    (subst (λ path. IsHanded c.enter.new.inside path place) (sym c.begin_block-own.ensures.path)
+    (subst (λ i. IsHanded i c.args.walk.now.path place) (sym c.in_ok-enter.ensures)
+    (turn_handed c.args.inside.now c.args.walk.now.path at h c.args.head.now c.args.value c.args.reached.now k))))
+
+-- ---- a block, behind what stands before it
+
+pub walk_inner-returns-clause-inside : goal.walk_inner-returns-clause-inside
+walk_inner-returns-clause-inside z c =
+    let handed = c.in_ok-hand_over.ensures.names in
+    let walked = ap (λ (i : Inside). i.around) c.in_ok-fault.ensures.inside ∙ handed in
+    around_again c.args.inside.now c.walk_scope.new.inside c.hand_over.new.around c.take_back.new.around
+    c.in_ok-fault.ensures.inside (c.take_back.ensures c.args.here.now.reached c.args.inside.now.around walked).1
+
+pub walk_inner-returns-clause-here : goal.walk_inner-returns-clause-here
+walk_inner-returns-clause-here z c =
+    let handed = c.in_ok-hand_over.ensures.names in
+    let walked = ap (λ (i : Inside). i.around) c.in_ok-fault.ensures.inside ∙ handed in
+    ap (λ r. record c.args.here.now { reached = r })
+    (c.take_back.ensures c.args.here.now.reached c.args.inside.now.around walked).0
+
+pub walk_inner-walk_scope-requires : goal.walk_inner-walk_scope-requires
+walk_inner-walk_scope-requires z c = (omega arith, c.requires)
+
+pub walk_inner-returns-clause-path : goal.walk_inner-returns-clause-path
+walk_inner-returns-clause-path z c = c.in_ok-fault.ensures.path
+
+pub walk_inner-returns-clause-walked : goal.walk_inner-returns-clause-walked
+walk_inner-returns-clause-walked z c t at text so w h =
+    c.in_ok-fault.ensures.walked t at text so w
+    (block_handed c.args.inside.now c.args.here.now c.args.walk.now.path at c.hand_over.new.around h
+    c.in_ok-hand_over.ensures.names)
 
 pub walk_scope-returns-clause-inside : goal.walk_scope-returns-clause-inside
 walk_scope-returns-clause-inside z c =
     scope_left c.args.inside.now c.enter_scope.new.inside c.walk_items.new.inside c.leave.new.inside
-    c.in_ok-here.ensures.names c.in_ok-here.ensures.numbers c.in_ok-here.ensures.clocks c.in_ok-fault.ensures.inside
-    c.leave.ensures
+    c.in_ok-here.ensures.names c.in_ok-here.ensures.numbers c.in_ok-here.ensures.clocks c.in_ok-here.ensures.around
+    c.in_ok-fault.ensures.inside c.leave.ensures
 
 pub walk_scope-returns-clause-walked : goal.walk_scope-returns-clause-walked
 walk_scope-returns-clause-walked z c t at text so w h =
@@ -478,7 +574,7 @@ walk_scope-returns-clause-walked z c t at text so w h =
 
 pub walk_module-returns-then-is_some-clause-walked : goal.walk_module-returns-then-is_some-clause-walked
 walk_module-returns-then-is_some-clause-walked z c t at text so w e h =
-    let u = use_of at.scopes c.args.instance.now in
+    let u = use_of (is_valued at) at.scopes c.args.instance.now in
     opening_stops c.args.source.now.modules.now c.args.source.now.fuel at c.args.instance.now c.args.module.now u text t
     c.open.new.walk.totals c.in_ok-fault.fault (sym c.is_some.ensures ∙ c.if-is_some.true)
     (c.in_ok-fault.ensures.walked c.args.source.now.modules.now t at u text at.modules c.args.walk.now.path so.totals h
@@ -486,7 +582,7 @@ walk_module-returns-then-is_some-clause-walked z c t at text so w e h =
 
 pub walk_module-returns-clause-walked : goal.walk_module-returns-clause-walked
 walk_module-returns-clause-walked z c t at text so w e h =
-    let u = use_of at.scopes c.args.instance.now in
+    let u = use_of (is_valued at) at.scopes c.args.instance.now in
     let m = c.args.module.now in
     let passed = sym c.is_some.ensures ∙ c.if-is_some.false in
     opening_passes c.args.source.now.modules.now c.args.source.now.fuel at c.args.instance.now m u text t c.open.new.walk.totals
@@ -541,7 +637,7 @@ walk_instance-returns-clause-walked z c t at so free h =
     module_walked ms c.args.source.now.fuel at x m named t c.walk_module.new.walk.totals c.in_ok-fault.fault positive
     (λ text. c.in_ok-fault.ensures.walked t at text so ((named_is ms x.definition m named).formed so.formed)
     (c.in_ok-enter.ensures.ok ∙ ap (λ texts. texts ++ m.name ∷ []) h.modules)
-    (record { stands = h.stands; modules = refl }))
+    (record { stands = h.stands; around = h.around; modules = refl }))
 
 -- ---- what each call asks for
 
@@ -652,8 +748,8 @@ walk_if-returns-in_ok-walk_block-in-Some-clause-path z c = c.in_ok-walk_block-in
 pub walk_if-returns-in_ok-walk_block-in-Some-clause-here : goal.walk_if-returns-in_ok-walk_block-in-Some-clause-here
 walk_if-returns-in_ok-walk_block-in-Some-clause-here z c = c.in_ok-walk_block-in-Some.ensures.here
 
-pub walk_block-walk_scope-requires : goal.walk_block-walk_scope-requires
-walk_block-walk_scope-requires z c =
+pub walk_block-walk_inner-requires : goal.walk_block-walk_inner-requires
+walk_block-walk_inner-requires z c =
     let b = block c.args.block.now in
     let xs = items c.items_of.result.now in
     let low : items_depth xs ≤ block_depth b = slice_depth b xs c.items_of.ensures in
@@ -666,21 +762,6 @@ walk_block-walk_one-requires z c =
     let low : depth x ≤ block_depth b = (nested_is b x (sym c.in-Some.ensures)).falls in
     (omega (arith, low), (c.requires.table, c.requires.scope))
 
-pub walk_block-returns-in_ok-walk_scope-in-None-clause-inside :
-    goal.walk_block-returns-in_ok-walk_scope-in-None-clause-inside
-walk_block-returns-in_ok-walk_scope-in-None-clause-inside z c = c.in_ok-walk_scope-in-None.ensures.inside
-
-pub walk_block-returns-in_ok-walk_scope-in-None-clause-path :
-    goal.walk_block-returns-in_ok-walk_scope-in-None-clause-path
-walk_block-returns-in_ok-walk_scope-in-None-clause-path z c = c.in_ok-walk_scope-in-None.ensures.path
-
-pub walk_block-returns-in_ok-walk_one-in-Some-clause-inside :
-    goal.walk_block-returns-in_ok-walk_one-in-Some-clause-inside
-walk_block-returns-in_ok-walk_one-in-Some-clause-inside z c = c.in_ok-walk_one-in-Some.ensures.inside
-
-pub walk_block-returns-in_ok-walk_one-in-Some-clause-path : goal.walk_block-returns-in_ok-walk_one-in-Some-clause-path
-walk_block-returns-in_ok-walk_one-in-Some-clause-path z c = c.in_ok-walk_one-in-Some.ensures.path
-
 pub walk_turns-walk_turn-requires : goal.walk_turns-walk_turn-requires
 walk_turns-walk_turn-requires z c = (omega arith, c.requires)
 
@@ -692,7 +773,7 @@ walk_turn-walk_scope-requires z c =
     (omega (arith, low), c.requires)
 
 pub walk_turn-returns-clause-path : goal.walk_turn-returns-clause-path
-walk_turn-returns-clause-path z c = c.in_ok-fault.ensures.path
+walk_turn-returns-clause-path z c = c.in_ok-fault.ensures.path ∙ c.begin_block-own.ensures.path
 
 pub walk_scope-walk_items-requires : goal.walk_scope-walk_items-requires
 walk_scope-walk_items-requires z c = (omega arith, (c.requires, c.in_ok-here.ensures.scope))

@@ -11,7 +11,7 @@ use Rattle.vl_elab_spec.specs.Items.{is_valued}
 use Rattle.vl_elab_spec.specs.Refused.{Totals, nowhere}
 use Rattle.vl_elab_spec.specs.Left.{AreLeft, ItemsAreLeft}
 use Rattle.vl_elab_spec.specs.Within.{deepest}
-use Rattle.vl_elab_check.specs.Standing.{HasScope, IsHere, IsSoFar, IsWithin}
+use Rattle.vl_elab_check.specs.Standing.{HasScope, IsHere, IsSoFar}
 use Rattle.vl_elab_check.proofs.walk.+walk.Given as goal
 
 abbrev pub invariant-walk_items-loop-part : goal.invariant-walk_items-loop-part
@@ -31,8 +31,9 @@ abbrev pub invariant-walk_turns-loop-left : goal.invariant-walk_turns-loop-left
 invariant-walk_turns-loop-left l = record {
   inside : l.inside ≡ l.fn.inside;
   path : l.walk.path ≡ l.fn.walk.path;
+  here : l.here ≡ l.fn.here;
   left : (t : Totals) (at : Place) (paths : Const → List ℕ) → IsSoFar l.source.modules.now l.fn.walk.totals t
-      → IsBlock (block l.block) → IsWithin l.fn.inside l.fn.walk.path at
+      → IsBlock (block l.block) → IsHere l.fn.inside l.fn.here l.fn.walk.path at
       → let body : Const → List Step = λ c. turn_walk is_valued l.source.modules.now (module_walk is_valued l.source.fuel l.source.modules.now) (block l.block)
       (turn_place at l.head.variable c) (paths c)
       in AreLeft l.source.modules.now t (loop_walk is_valued l.head at body) l.walk.totals
@@ -59,13 +60,16 @@ decreases-walk_if l =
     + 8 * depth (shown [] nowhere (kind.If l.condition.now l.first.now l.second.now))
 
 abbrev pub decreases-walk_block : goal.decreases-walk_block
-decreases-walk_block l = l.source.now.fuel * (8 * deepest l.source.now.modules.now + 8) + 8 * block_depth (block l.block.now) + 5
+decreases-walk_block l = l.source.now.fuel * (8 * deepest l.source.now.modules.now + 8) + 8 * block_depth (block l.block.now) + 6
 
 abbrev pub decreases-walk_turns : goal.decreases-walk_turns
 decreases-walk_turns l = l.source.now.fuel * (8 * deepest l.source.now.modules.now + 8) + 8 * block_depth (block l.block.now) + 6
 
 abbrev pub decreases-walk_turn : goal.decreases-walk_turn
 decreases-walk_turn l = l.source.now.fuel * (8 * deepest l.source.now.modules.now + 8) + 8 * block_depth (block l.block.now) + 5
+
+abbrev pub decreases-walk_inner : goal.decreases-walk_inner
+decreases-walk_inner l = l.source.now.fuel * (8 * deepest l.source.now.modules.now + 8) + 8 * items_depth (items l.all.now) + 5
 
 abbrev pub decreases-walk_scope : goal.decreases-walk_scope
 decreases-walk_scope l = l.source.now.fuel * (8 * deepest l.source.now.modules.now + 8) + 8 * items_depth (items l.all.now) + 4

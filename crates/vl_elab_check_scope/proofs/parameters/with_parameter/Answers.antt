@@ -2,6 +2,7 @@ use Rattle.std.proofs.Common.{sym, subst, ◌∙◌, [], ◌∷◌}
 use Rattle.vl_elab_spec.specs.Meanings.{meanings_at}
 use Rattle.vl_elab_scope.specs.Alike.{Alike}
 use Rattle.vl_elab_names.specs.Known.{contains}
+use Rattle.vl_elab_decls.specs.declared.scopes.Inside.{Inside}
 use Rattle.vl_elab_params.specs.Reached.{IsReached}
 use Rattle.vl_elab_check_scope.proofs.NameLemmas.{same_names}
 use Rattle.vl_elab_check_scope.proofs.parameters.with_parameter.Goals as goal
@@ -14,5 +15,5 @@ returns-clause-earlier c before names text =
 pub returns-clause-reached : goal.returns-clause-reached
 returns-clause-reached c at before same reached =
     c.in_ok-pass.ensures at before
-    (subst (λ ns. Alike ns (meanings_at at)) (sym c.in_ok-fault.ensures.names) same)
+    (subst (λ (i : Inside). Alike i.names (meanings_at at)) (sym c.in_ok-fault.ensures.inside) same)
     (subst (λ r. IsReached r at before) (sym c.in_ok-fault.ensures.reached) reached)

@@ -5,7 +5,6 @@ use Rattle.vl_mean.specs.ConstantFaults.{capped}
 use Rattle.vl_mean.specs.FlatLaw.{nodes}
 use Rattle.vl_elab_const.specs.Numbers.{holds, genvar_number}
 use Rattle.vl_elab_check_item.specs.TurnParts.{in_turn}
-use Rattle.vl_elab_count.proofs.CountSums.{one}
 use Rattle.vl_elab_count.specs.Counts.{turn_nodes}
 use Rattle.vl_elab_count.proofs.TotalsSums.{turns_on, turns_stop, last_turn, once, none_yet}
 use Rattle.vl_elab_count.proofs.turns.turns.Goals as goal
@@ -34,8 +33,8 @@ loop-left-preserved c =
           (c.in_ok-next.ensures.next
           ∙ (λ i. let inner = in_turn head.variable value (same i) in
           if holds inner head.condition then Some (genvar_number inner head.next) else None))
-          c.loop-left.invariant.count c.in-Some.next c.plus-step.result c.plus-total-in-Some.result c.in-Some.is
-          (c.plus-step.ensures ∙ one (nodes head.next) c.expr_nodes.result c.expr_nodes.ensures)
+          c.loop-left.invariant.count c.in-Some.next c.expr_nodes-step.result c.plus-total-in-Some.result c.in-Some.is
+          c.expr_nodes-step.ensures
           c.plus-total-in-Some.ensures;
     }
 

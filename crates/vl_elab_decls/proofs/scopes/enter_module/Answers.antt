@@ -19,7 +19,7 @@ returns-clause-stands c =
     let f = c.ports_of-ports.ensures in
     let g = c.as_slice-all.ensures in
     subst (λ k. Stands inside.names inside.numbers (contains inside.clocks)
-    (scope_meanings (module_scope m u path) [] k ∷ []) (module_scope m u path ∷ [])) (made_is m u path ps qs xs e f g)
+    (scope_meanings (module_scope m u path) [] [] k ∷ []) (module_scope m u path ∷ [])) (made_is m u path ps qs xs e f g)
     (h (module_scope m u path) u inputs given (plain_is m u path ps qs xs e f g plain)
     (module_constants_are m u path ps qs xs e f g) (module_decls_are m u path ps qs xs e f g)))
     c.enter_parts.ensures.stands
@@ -34,3 +34,6 @@ returns-clause-around c =
 
 pub returns-clause-inside : goal.returns-clause-inside
 returns-clause-inside c = c.enter_parts.ensures.inside
+
+pub returns-clause-parameters : goal.returns-clause-parameters
+returns-clause-parameters c = c.enter_parts.ensures.parameters

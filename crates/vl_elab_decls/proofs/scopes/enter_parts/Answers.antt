@@ -21,13 +21,13 @@ returns-clause-stands c s u inputs given plain constants decls =
     let numbers = nothing_numbers _ c.new-numbers.ensures in
     let own = c.in_ok-enter_parameters.ensures.own s [] [] u.overrides given alike numbers constants in
     subst (λ ns. Stands c.enter_objects.new.names ns (contains c.in_ok-clocks.clocks)
-    (scope_meanings s [] (contents u.overrides ps qs xs) ∷ []) (s ∷ []))
+    (scope_meanings s [] [] (contents u.overrides ps qs xs) ∷ []) (s ∷ []))
     (sym (c.in_ok-enter.ensures.ok ∙ ap (λ l. l ∷ c.enter_parameters.new.numbers) c.new.ensures))
     (module_entered s u ps qs xs decls (contains c.in_ok-clocks.clocks) c.enter_parameters.new.names
     c.enter_objects.new.names c.enter_parameters.new.numbers
     (c.in_ok-enter_parameters.ensures.around ∙ c.new-names.ensures)
     (c.in_ok-enter_parameters.ensures.beneath ∙ c.new-numbers.ensures) own c.in_ok-enter_objects.ensures.stack
-    (c.in_ok-enter_objects.ensures.shaped s [] (among_parameters s [] (contents u.overrides ps qs xs))
+    (c.in_ok-enter_objects.ensures.shaped s [] (among_parameters s [] [] (contents u.overrides ps qs xs))
     (with_constants s.constants []) u inputs
     (c.in_ok-enter_parameters.ensures.names s [] [] u.overrides given alike numbers constants)
     (module_declared s u ps qs xs decls plain (innermost c.enter_parameters.new.names)
@@ -42,3 +42,6 @@ returns-clause-around c s u given constants =
 
 pub returns-clause-inside : goal.returns-clause-inside
 returns-clause-inside c = subst (λ ns. ns ≡ innermost ns ∷ drop 1 ns) (sym c.in_ok-enter.ensures.ok) refl
+
+pub returns-clause-parameters : goal.returns-clause-parameters
+returns-clause-parameters c = c.new-2.ensures

@@ -9,10 +9,11 @@ use Rattle.vl_tree.specs.Item.{Item, declaration, integer, genvar, parameter, as
 use Rattle.vl_tree.specs.Item.{generate, for_loop, items, items_depth, block_depth, depth}
 use Rattle.vl_tree.specs.ItemView.{block, shown}
 use Rattle.vl_mean.specs.Declarations.{block_name, constructs, declared, declared_by, label_of}
-use Rattle.vl_mean.specs.Walk.{goes_on, module_named, next_turn, turn_path, turns, use_of}
+use Rattle.vl_mean.specs.Walk.{has_any}
+use Rattle.vl_mean.specs.Walk.{block_step, goes_on, module_named, next_turn, turn_path, turn_place, turns, use_of}
 use Rattle.vl_elab_spec.specs.Refused.{nowhere}
 use Rattle.vl_elab_const.specs.Numbers.{HaveNumbers}
-use Rattle.vl_mean_flat.specs.Seen.{seen_steps}
+use Rattle.vl_mean_flat.specs.Seen.{seen_step, seen_steps}
 use Rattle.vl_elab_spec.specs.Within.{chosen_block, deepest, nested_if}
 use Rattle.vl_elab_spec.proofs.Inner.{chosen_is, nested_is}
 use Rattle.vl_elab_spec.proofs.Unfolded.{named_is}
@@ -31,7 +32,7 @@ use Rattle.vl_elab_flatten.proofs.Items.{both_declared, nested_declares, none_ch
 use Rattle.vl_elab_flatten.proofs.Items.{some_chosen, some_goes, some_next, turn_scoped, turns_on, turns_stopped}
 use Rattle.vl_elab_flatten.proofs.Opening.{block_opens}
 use Rattle.vl_elab_flatten.proofs.Places.{block_here, same_here, turn_scope}
-use Rattle.vl_elab_flatten.proofs.Seens.{Left, fails, left_all, left_none, left_on, ready_first, writes_nothing}
+use Rattle.vl_elab_flatten.proofs.Seens.{behind_block, Left, fails, left_all, left_none, left_on, ready_first, writes_nothing}
 use Rattle.vl_elab_flatten.proofs.Unfolding.{instance_opens, instance_written, none_found, opened_declares}
 use Rattle.vl_elab_flatten.proofs.Unfolding.{opened_ready, opened_written, ports_may, too_deep, within_ready}
 use Rattle.vl_elab_flatten.proofs.Values.{next_bounded}
@@ -403,11 +404,14 @@ write_block-write_scope-requires z c =
         c.requires.table,
         (
           c.requires.numbers,
-          subst (IsReady c.args.draft.now)
+          behind_block c.args.draft.now (place_of c.args.here.now) b
+              (scope_seen c.args.source.now.modules.now c.args.source.now.depth xs (place_of c.args.here.now)
+              c.in_ok-path-in-None.path)
+              (subst (IsReady c.args.draft.now)
               (block_scoped c.args.source.now.modules.now c.args.source.now.depth b xs (place_of c.args.here.now) c.args.number
               c.in_ok-path-in-None.path (sym (sym (ap option_copied c.in-None.is) ∙ c.nested.ensures))
               c.items_of-all.ensures
-              c.in_ok-path-in-None.ensures) c.requires.ready,
+              c.in_ok-path-in-None.ensures) c.requires.ready),
         ),
       ),
     )
@@ -439,9 +443,11 @@ write_block-write_one-requires z c =
           c.requires.numbers,
           (
             nested_declares (around_of c.args.here.now.scopes) b x some,
-            subst (IsReady c.args.draft.now)
+            behind_block c.args.draft.now (place_of c.args.here.now) b
+                (item_seen c.args.source.now.modules.now c.args.source.now.depth x (place_of c.args.here.now) c.args.number)
+                (subst (IsReady c.args.draft.now)
                 (block_nested c.args.source.now.modules.now c.args.source.now.depth b x (place_of c.args.here.now) c.args.number some)
-                c.requires.ready,
+                c.requires.ready),
           ),
         ),
       ),
@@ -633,20 +639,23 @@ write_turn-write_scope-requires z c =
     let b = block c.args.block.now in
     let xs = items c.items_of-all.result.now in
     let low : items_depth xs ≤ block_depth b = slice_falls b xs c.items_of-all.ensures in
+    let turn = turn_place (place_of h) c.args.head.now.variable c.args.value in
     let so : turn_seen ms d c.args.head.now b (place_of h) c.args.label.now c.args.value
-    ≡ scope_seen ms d xs (place_of c.open_turn.new.here) c.in_ok-path.path =
+    ≡ seen_step (block_step turn b) ∷ scope_seen ms d xs (place_of c.open_turn.new.here) c.in_ok-path.path =
     turn_scoped ms d c.args.head.now b xs (place_of h) c.args.label.now c.args.value c.in_ok-path.path
     c.items_of-all.ensures
     (c.in_ok-path.ensures ∙ ap (λ p. turn_path p c.args.label.now c.args.value) c.in_ok-open_turn.ensures.path)
-    ∙ turn_scope ms d xs h.scopes h.path c.in_ok-path.path c.args.head.now.variable h.names c.args.value
+    ∙ ap (λ ys. seen_step (block_step turn b) ∷ ys)
+    (turn_scope ms d xs h.scopes h.path c.in_ok-path.path c.args.head.now.variable h.names c.args.value
     ∙ (λ i. scope_seen ms d xs (place_in (sym c.in_ok-open_turn.ensures.scopes i)
-    (sym c.in_ok-open_turn.ensures.path i) (sym c.in_ok-open_turn.ensures.names i)) c.in_ok-path.path) in (
+    (sym c.in_ok-open_turn.ensures.path i) (sym c.in_ok-open_turn.ensures.names i)) c.in_ok-path.path)) in (
       omega (arith, low),
       (
         c.requires.table,
         (
           c.in_ok-open_turn.ensures.numbers c.requires.numbers,
-          subst (IsReady c.args.draft.now) so c.requires.ready,
+          behind_block c.args.draft.now turn b (scope_seen ms d xs (place_of c.open_turn.new.here) c.in_ok-path.path)
+              (subst (IsReady c.args.draft.now) so c.requires.ready),
         ),
       ),
     )
@@ -658,14 +667,16 @@ write_turn-returns-clause-written z c =
     let h = c.args.here.now in
     let b = block c.args.block.now in
     let xs = items c.items_of-all.result.now in
+    let turn = turn_place (place_of h) c.args.head.now.variable c.args.value in
     let so : turn_seen ms d c.args.head.now b (place_of h) c.args.label.now c.args.value
-    ≡ scope_seen ms d xs (place_of c.open_turn.new.here) c.in_ok-path.path =
+    ≡ seen_step (block_step turn b) ∷ scope_seen ms d xs (place_of c.open_turn.new.here) c.in_ok-path.path =
     turn_scoped ms d c.args.head.now b xs (place_of h) c.args.label.now c.args.value c.in_ok-path.path
     c.items_of-all.ensures
     (c.in_ok-path.ensures ∙ ap (λ p. turn_path p c.args.label.now c.args.value) c.in_ok-open_turn.ensures.path)
-    ∙ turn_scope ms d xs h.scopes h.path c.in_ok-path.path c.args.head.now.variable h.names c.args.value
+    ∙ ap (λ ys. seen_step (block_step turn b) ∷ ys)
+    (turn_scope ms d xs h.scopes h.path c.in_ok-path.path c.args.head.now.variable h.names c.args.value
     ∙ (λ i. scope_seen ms d xs (place_in (sym c.in_ok-open_turn.ensures.scopes i)
-    (sym c.in_ok-open_turn.ensures.path i) (sym c.in_ok-open_turn.ensures.names i)) c.in_ok-path.path) in
+    (sym c.in_ok-open_turn.ensures.path i) (sym c.in_ok-open_turn.ensures.names i)) c.in_ok-path.path)) in
     subst (λ ys. Writes c.args.draft.now ys c.write_scope.new.draft) (sym so) c.in_ok-write_scope.ensures.written
 
 pub write_turn-returns-clause-here : goal.write_turn-returns-clause-here
@@ -754,7 +765,7 @@ write_instance-write_opened-requires z c =
     let ms = c.args.source.now.modules.now in
     let m = c.in-Some.module.now in
     let at = place_of c.args.here.now in
-    let u = use_of at.scopes c.args.instance.now in
+    let u = use_of has_any at.scopes c.args.instance.now in
     let inside = at.path ++ c.args.instance.now.name ++ codes "." in
     let positive : 0 < c.args.source.now.depth = grind (arith, c.if-source-eq0.false) in
     let low = module_falls c.args.source.now.depth (deepest ms) (items_depth (items m.items)) positive

@@ -8,6 +8,6 @@ pub returns-clause-behind : goal.returns-clause-behind
 returns-clause-behind c =
     let ns = c.args.numbers.now in
     let head = c.args.head.now in
-    IfOk-weaker c.pass_turn.result (λ k. k ≡ turn_passed ns head c.args.block c.in_ok-first.first c.args.start)
-    (λ k. k ≡ turn_passed ns head c.args.block (genvar_number ns head.start) c.args.start)
-    (λ k h. h ∙ ap (λ v. turn_passed ns head c.args.block v c.args.start) c.in_ok-first.ensures) c.pass_turn.ensures.behind
+    IfOk-weaker c.pass_turn.result (λ k. k ≡ turn_passed ns head c.in_ok-first.first c.args.start)
+    (λ k. k ≡ turn_passed ns head (genvar_number ns head.start) c.args.start)
+    (λ k h. h ∙ ap (λ v. turn_passed ns head v c.args.start) c.in_ok-first.ensures) c.pass_turn.ensures.behind

@@ -5,8 +5,8 @@ use Rattle.vl_elab_places.proofs.turns.pass_turns.Given as goal
 abbrev pub invariant-loop-left : goal.invariant-loop-left
 invariant-loop-left l = record {
   numbers : l.numbers ≡ l.fn.numbers;
-  behind : turns_passed l.left l.fn.numbers l.head l.block l.value l.at
-      ≡ turns_passed 4096 l.fn.numbers l.head l.block l.fn.first l.fn.start;
+  behind : turns_passed l.left l.fn.numbers l.head l.value l.at
+      ≡ turns_passed 4096 l.fn.numbers l.head l.fn.first l.fn.start;
 }
 
 abbrev pub decreases-loop-left : goal.decreases-loop-left

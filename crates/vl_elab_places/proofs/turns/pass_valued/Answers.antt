@@ -9,10 +9,10 @@ returns-then-begins-clause-behind c =
     let ns = c.args.numbers.now in
     let head = c.args.head.now in
     let values = c.args.values in
-    let begun = begun_passed values.further ns head c.args.block c.args.start in
+    let begun = begun_passed values.further ns head c.args.start in
     let alone = expr_passed head.condition c.args.start in
     IfOk-weaker c.pass_begun.result (λ k. k ≡ begun)
-    (λ k. k ≡ loop_passed values ns head c.args.block c.args.start)
+    (λ k. k ≡ loop_passed values ns head c.args.start)
     (λ k h. h ∙ (λ i. if sym c.if-begins.true i then begun else alone)) c.pass_begun.ensures.behind
 
 pub returns-clause-behind : goal.returns-clause-behind
@@ -20,6 +20,6 @@ returns-clause-behind c =
     let ns = c.args.numbers.now in
     let head = c.args.head.now in
     let values = c.args.values in
-    let begun = begun_passed values.further ns head c.args.block c.args.start in
+    let begun = begun_passed values.further ns head c.args.start in
     let alone = expr_passed head.condition c.args.start in
     c.pass_expr.ensures ∙ (λ i. if sym c.if-begins.false i then begun else alone)
