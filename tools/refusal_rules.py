@@ -4,7 +4,7 @@ The first refused step of the walk is answered; of it the lowest number, of one 
 """
 from refusal_names import (assigned_divisors, judge_constant, judge_expr, judge_initial, judge_output, judge_set,
                            judge_stmt)
-from refusal_values import LIMIT, Entry, NoValue, Scope, number, sign, signed, size, value
+from refusal_values import LIMIT, Entry, NoValue, Scope, sign, signed, size, value
 
 NO_MODULE, TWICE, UNKNOWN, PORT, PARAM, RECURSIVE, RANGE, GEN_LOOP, TOO_MANY_BITS, CLOCK = range(1, 11)
 NOT_CONSTANT, ZERO, WIDE, TOO_LARGE, KIND = range(11, 16)
@@ -226,7 +226,6 @@ class Reader:
             if wide > LIMIT:
                 return None
             got = value(expr, wide, with_sign, place)
-            number(expr, place)
         except NoValue:
             return None
         if width is None:
@@ -592,7 +591,6 @@ class Reader:
             wide = max(size(expr, scope), 32)
             if wide > LIMIT:
                 return None
-            number(expr, scope)
             return signed(value(expr, wide, sign(expr, scope), scope) % (1 << 32), 32)
         except NoValue:
             return None
