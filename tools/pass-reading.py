@@ -83,6 +83,8 @@ class Module:
                 continue
             if not text.startswith(MARKED) and not re.match(r"^\S+ :\s", text):
                 continue
+            if text.startswith(("record {", "record (")):
+                continue  # a value, not the type of one
             kind, name, _ = HEAD.match(text).groups()
             if kind:
                 body = depth

@@ -3,9 +3,9 @@
 //! - The base: whether a run up to a cycle has the bad node other than 0 in a cycle from 1 on.
 //! - The step: whether cycles from any state, without reset, have it so in the last one first, and their trace.
 //! - Where neither is there, no run of any length has it so in a cycle from 1 on.
-//! - A net once more, with other starts, without its reset, or without its assumptions: the builders of nets only add, so
-//!   it is built anew, first a node for each input and each register, then a node for each node of the net, whose number
-//!   is that of the old one and as many more as these.
+//! - A net once more, with other starts, without its reset, or without its assumptions: the builders of nets only
+//!   add, so it is built anew, first a node for each input and each register, then a node for each node of the net,
+//!   whose number is that of the old one and as many more as these.
 #![tactic(auto)]
 
 mod anywhere;

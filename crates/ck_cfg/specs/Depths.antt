@@ -73,8 +73,7 @@ with_depth_of r d = record r { config = record r.config { depths = r.config.dept
 abbrev pub with_new_depth : Reader → ℕ → List ℕ → Depth → Result Reader CfgFault
 with_new_depth r line word d =
     if list_any (is_for d.kind d.channel) r.config.depths then Err (fault.Twice line word)
-    else if nat_lt 100 d.cycle then Err (fault.TooDeep line)
-    else Ok (with_depth_of r d)
+    else if nat_lt 100 d.cycle then Err (fault.TooDeep line) else Ok (with_depth_of r d)
 
 -- what a line says, or that it says nothing right
 abbrev pub with_depth_read : Reader → ℕ → List ℕ → Option Depth → Result Reader CfgFault

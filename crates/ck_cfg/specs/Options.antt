@@ -36,8 +36,7 @@ isa_named name =
     if bytes_eq name (codes "rv32i") then Some (isa false false)
     else if bytes_eq name (codes "rv32im") then Some (isa true false)
     else if bytes_eq name (codes "rv32ic") then Some (isa false true)
-    else if bytes_eq name (codes "rv32imc") then Some (isa true true)
-    else None
+    else if bytes_eq name (codes "rv32imc") then Some (isa true true) else None
 
 -- the keys that are accepted without effect, with values or without
 abbrev pub idle_keys : List (List ℕ)
@@ -67,10 +66,7 @@ with_isa r line key values = Err (fault.Option line key)
 
 -- the number of channels of a value
 abbrev pub nret_named : List ℕ → Option ℕ
-nret_named value =
-    if bytes_eq value (codes "1") then Some 1
-    else if bytes_eq value (codes "2") then Some 2
-    else None
+nret_named value = if bytes_eq value (codes "1") then Some 1 else if bytes_eq value (codes "2") then Some 2 else None
 
 -- with the key, where its value is a number of channels
 abbrev pub with_nret_named : Reader → ℕ → List ℕ → Option ℕ → Result Reader CfgFault
@@ -80,8 +76,7 @@ with_nret_named r line key (Some n) = Ok (with_key r key)
 -- `nret` has one value, 1 or 2, which holds from the first line on
 abbrev pub with_nret : Reader → ℕ → List ℕ → List (List ℕ) → Result Reader CfgFault
 with_nret r line key (value ∷ []) =
-    if is_among r.keys key then Err (fault.Twice line key)
-    else with_nret_named r line key (nret_named value)
+    if is_among r.keys key then Err (fault.Twice line key) else with_nret_named r line key (nret_named value)
 with_nret r line key values = Err (fault.Option line key)
 
 -- a line of the section: its words
@@ -90,5 +85,4 @@ with_option r line [] = Err (fault.Option line [])
 with_option r line (key ∷ values) =
     if bytes_eq key (codes "isa") then with_isa r line key values
     else if bytes_eq key (codes "nret") then with_nret r line key values
-    else if is_among idle_keys key then once r line key
-    else Err (fault.Option line key)
+    else if is_among idle_keys key then once r line key else Err (fault.Option line key)

@@ -132,8 +132,7 @@ with_lines r (l ∷ ls) = and_then (with_line r l) (λ s. with_lines s ls)
 abbrev pub finished : Reader → Result Config CfgFault
 finished r =
     if is_nil r.config.depths && is_nil r.config.skips then Err (fault.Missing (codes "depth"))
-    else if is_nil r.config.files then Err (fault.Missing (codes "verilog-files"))
-    else Ok r.config
+    else if is_nil r.config.files then Err (fault.Missing (codes "verilog-files")) else Ok r.config
 
 -- the configuration of lines, or why they have none; their number of channels holds from the first one on
 abbrev pub config_of_lines : List Line → Result Config CfgFault

@@ -31,8 +31,7 @@ abbrev pub names_behind : List (List ℕ) → Option (List (List ℕ))
 names_behind [] = None
 names_behind (w ∷ ws) =
     if is_among script_options w then names_behind ws
-    else if list_any (begins_with 45) (w ∷ ws) then None
-    else Some (w ∷ ws)
+    else if list_any (begins_with 45) (w ∷ ws) then None else Some (w ∷ ws)
 
 -- the names of the files that the words read
 abbrev pub names_read : List (List ℕ) → Option (List (List ℕ))

@@ -15,8 +15,8 @@ const FEW: u64 = 1024;
 /// How many more it may have for each literal that was marked.
 const MORE: u64 = 8;
 
-/// Which literals are marked, by their codes. The table is as long as the literals that were marked so far allow, so that
-/// no number that stands in a text makes it longer than the text is; the other codes stand in the set.
+/// Which literals are marked, by their codes. The table is as long as the literals that were marked so far allow, so
+/// that no number that stands in a text makes it longer than the text is; the other codes stand in the set.
 #[derive(Drop)]
 pub(crate) struct Marks {
     near: Vec<bool>,

@@ -31,8 +31,7 @@ written_agrees r e index =
 
 -- and a byte that is to be read is
 abbrev pub byte_agrees : Retire → Effect → ℕ → Bool
-byte_agrees r e index =
-    written_agrees r e index && (not (has e.rmask index) || has r.mem_rmask index)
+byte_agrees r e index = written_agrees r e index && (not (has e.rmask index) || has r.mem_rmask index)
 
 -- the four bytes of a word
 abbrev pub bytes_agree : Retire → Effect → Bool
@@ -45,10 +44,8 @@ address_agrees r e = (e.rmask == 0 && e.wmask == 0) || r.mem_addr == e.mem_addr
 -- rd, where it goes on, and memory
 abbrev pub results_agree : Retire → Effect → Bool
 results_agree r e =
-    r.rd_addr == e.rd_addr
-    && (r.rd_wdata == e.rd_wdata
-    && (r.pc_wdata == e.pc_wdata
-    && (address_agrees r e && bytes_agree r e)))
+    r.rd_addr == e.rd_addr && (r.rd_wdata == e.rd_wdata
+    && (r.pc_wdata == e.pc_wdata && (address_agrees r e && bytes_agree r e)))
 
 -- both are true, or both are false
 abbrev pub same : Bool → Bool → Bool

@@ -32,8 +32,8 @@ abbrev pub only_named : List ℕ → List Check → List Check
 only_named name [] = []
 only_named name (x ∷ xs) = if is_named name x then x ∷ [] else only_named name xs
 
--- one for each of its checks, of the targets of these, or of the checks of Zba and Zbs beside them, in their order; or one
--- for the check with a name
+-- one for each of its checks, of the targets of these, or of the checks of Zba and Zbs beside them, in their order;
+-- or one for the check with a name
 abbrev pub questions_of : Asking → Config → List Question
 questions_of asking.Checks c = map (λ x. question.Check x) (checks_of c)
 questions_of asking.Targets c = map (λ t. question.Target t) (targets_of (checks_of c))

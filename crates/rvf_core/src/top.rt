@@ -38,14 +38,14 @@ const USAGE: &[u8] =
 /// Does what the words ask for, delivers what it found, and answers how it ended.
 ///
 /// `words` are the words behind the program's name. `run CFG OUTDIR` judges the checks of a configuration. Each pass
-/// and each spent budget comes behind the files `OUTDIR/NAME.cnf` and `OUTDIR/NAME.lrat`, clauses with notes and steps
-/// over them, each fail behind `OUTDIR/NAME.vcd`, the trace of a run that violates the check. `list CFG` puts the names
-/// of the checks. `lrat CNF PROOF` checks that the steps of a proof refute the clauses of a file. `bench N` judges the
-/// checks of a design with N registers that it makes, and puts how many came to what. `cover CFG OUTDIR` says of each
-/// target of the configuration's checks whether a run reaches it, behind the trace of one, or behind clauses and steps.
-/// `zb CFG OUTDIR` judges the checks of the instructions of Zba and Zbs as `run` does its own. `toaig CFG CHECK FILE`
-/// writes the graph of a check, whose output is 1 exactly in the runs that violate it, and `fromaig AAG CNF` the clauses
-/// of a graph. A refusal has one line that names its cause.
+/// and each spent budget comes behind the files `OUTDIR/NAME.cnf` and `OUTDIR/NAME.lrat`, clauses with notes and
+/// steps over them, each fail behind `OUTDIR/NAME.vcd`, the trace of a run that violates the check. `list CFG` puts
+/// the names of the checks. `lrat CNF PROOF` checks that the steps of a proof refute the clauses of a file. `bench N`
+/// judges the checks of a design with N registers that it makes, and puts how many came to what. `cover CFG OUTDIR`
+/// says of each target of the configuration's checks whether a run reaches it, behind the trace of one, or behind
+/// clauses and steps. `zb CFG OUTDIR` judges the checks of the instructions of Zba and Zbs as `run` does its own.
+/// `toaig CFG CHECK FILE` writes the graph of a check, whose output is 1 exactly in the runs that violate it, and
+/// `fromaig AAG CNF` the clauses of a graph. A refusal has one line that names its cause.
 pub fn run<R: Threads + Sync, F: Files, O: Out>(
     rt: &R,
     alloc: Global,

@@ -1,5 +1,5 @@
--- Between functions: What a graph of a design without hierarchy says of the design that the source writes. Rules of this
--- project.
+-- Between functions: What a graph of a design without hierarchy says of the design that the source writes. Rules of
+-- this project.
 use Rattle.std.specs.Prelude.{◌≡◌, ℕ, List}
 use Rattle.rv_table.specs.declared.retire.Opts.{Opts}
 use Rattle.vl_mean.specs.declared.flat.Flat.{Flat}

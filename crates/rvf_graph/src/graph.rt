@@ -53,8 +53,8 @@ fn run_graph(frames: Frames, blasted: Blasted) -> RunGraph
     RunGraph { bits, graph, root }
 }
 
-/// The graph of a net's runs up to a cycle: its root is true exactly in the runs that meet the assumptions up to the cycle
-/// and have the bad node other than 0 in it.
+/// The graph of a net's runs up to a cycle: its root is true exactly in the runs that meet the assumptions up to the
+/// cycle and have the bad node other than 0 in it.
 fn graph_of_runs(alloc: Global, net: &Net, bad: NodeId, cycle: u32) -> Result<RunGraph, Memory>
     requires bad { IsNode net.now bad }
     requires within { IsWithin net.now }

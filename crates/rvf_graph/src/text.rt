@@ -48,11 +48,11 @@ fn written(alloc: Global, names: &Names, made: &RunGraph) -> Result<GraphText, M
     })
 }
 
-/// The graph of a question as a text in the ASCII format AIGER, said of the design that the net is loaded from: its output
-/// is 1 exactly where the bits that its inputs name are those of a run that gives what is sought.
+/// The graph of a question as a text in the ASCII format AIGER, said of the design that the net is loaded from: its
+/// output is 1 exactly where the bits that its inputs name are those of a run that gives what is sought.
 ///
-/// The inputs are bits that are chosen in the runs up to the question's cycle, and each list of values of them is that of a
-/// run. A bit that no node depends on may have no input.
+/// The inputs are bits that are chosen in the runs up to the question's cycle, and each list of values of them is
+/// that of a run. A bit that no node depends on may have no input.
 pub fn graph_text(
     alloc: Global,
     net: &Net,

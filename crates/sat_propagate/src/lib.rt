@@ -1,7 +1,7 @@
 //! Unit propagation over the clauses of a search.
 //!
-//! - Unit propagation over watched literals: a clause that is false or forces a literal, or none is left, found from the
-//!   literals that became true alone.
+//! - Unit propagation over watched literals: a clause that is false or forces a literal, or none is left, found from
+//!   the literals that became true alone.
 //! - Unit propagation over the clauses of a search: one that is false or forces a literal, by its place, found from the
 //!   watched literals alone.
 #![tactic(auto)]

@@ -16,8 +16,8 @@ use std::alloc::Global;
 /// Above all ids and hints of at most 18 digits.
 const LONG: u64 = 1_000_000_000_000_000_000;
 
-/// How a search ends, as another one guessed it that promises nothing: it is judged here. None where it doesn't hold, or
-/// where that search found no end with fewer clauses than the budget.
+/// How a search ends, as another one guessed it that promises nothing: it is judged here. None where it doesn't hold,
+/// or where that search found no end with fewer clauses than the budget.
 pub(crate) fn guessed(alloc: Global, formula: &Formula, budget: u64) -> Option<Found>
     ensures { IfSome result (λ found. Ends budget formula.now.vars formula.now.clauses found) }
 {

@@ -100,7 +100,8 @@ fn begun(
         ≡ lower_of own (lowest (items.genvar_refusals names.now head.now.next))) }
     ensures next { IfOk result (λ t. t.next
         ≡ (if is_none (lowest (items.genvar_refusals names.now head.now.next))
-        && items.has_value names.now head.now.next then Some (numbers_spec.genvar_number numbers.now head.now.next) else None)) }
+        && items.has_value names.now head.now.next
+        then Some (numbers_spec.genvar_number numbers.now head.now.next) else None)) }
 {
     let step = genvar_fault(alloc, &head.next, names)?;
     if step.is_some() {

@@ -114,7 +114,8 @@ behind_head at m = with_earlier at (parameter_names (module_parameters m) ++ por
 
 -- behind those of its instance
 abbrev pub opened_walk : Valued → List Module → Unfolding → Place → Module → Use → List Step
-opened_walk valued ms inner at m u = head_steps at m u ++ items_walk valued ms inner (items m.items) (behind_head at m) 1
+opened_walk valued ms inner at m u =
+    head_steps at m u ++ items_walk valued ms inner (items m.items) (behind_head at m) 1
 
 abbrev pub module_steps : List Module → Unfolding → Place → Module → Use → List Step
 module_steps = opened_walk all_valued

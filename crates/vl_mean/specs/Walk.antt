@@ -167,8 +167,7 @@ module_around m u = with_constants (module_constants m u) []
 -- the scope of a module's instance
 abbrev pub module_scope : Module → Use → List ℕ → Scope
 module_scope m u path =
-    let ss = module_around m u in
-    record {
+    let ss = module_around m u in record {
       path = path;
       decls = declared_ports ss u.is_top u.input (ports_of m.ports) ++ declared ss (items m.items);
       constants = module_constants m u;
@@ -238,8 +237,7 @@ override_of has_value ss text (Some e) =
 
 abbrev pub overrides_of : (Expr → Bool) → List Scope → List Connection → Overrides
 overrides_of has_value ss [] = []
-overrides_of has_value ss (x ∷ xs) =
-    override_of has_value ss x.port x.value ++ overrides_of has_value ss xs
+overrides_of has_value ss (x ∷ xs) = override_of has_value ss x.port x.value ++ overrides_of has_value ss xs
 
 -- in these scopes, where these expressions have values
 abbrev pub use_of : (Expr → Bool) → List Scope → Instance → Use
@@ -253,8 +251,7 @@ abbrev pub override_steps : Place → Module → Use → List (List ℕ) → Lis
 override_steps at m u given [] = []
 override_steps at m u given (x ∷ xs) = override at m u given x ∷ override_steps at m u (given ++ x.port ∷ []) xs
 
-abbrev pub connection_steps : Place → Module → Use → List Scope → List (List ℕ) → List Connection
-    → List Step
+abbrev pub connection_steps : Place → Module → Use → List Scope → List (List ℕ) → List Connection → List Step
 connection_steps at m u inside given [] = []
 connection_steps at m u inside given (x ∷ xs) =
     connection at m u inside given x ∷ connection_steps at m u inside (given ++ x.port ∷ []) xs
@@ -372,8 +369,7 @@ module _ (valued : Valued) (ms : List Module) (inner : Unfolding) where
         let chosen = if is_true (constant_operand (constant_in at.scopes) c) then block else [] in
         item at (if_only attrs p c b) ∷ (if valued at c then chosen else [])
     item_walk (if_else attrs p c b d) at n =
-        let first = block_walk b at n in
-        let second = block_walk d at n in
+        let first = block_walk b at n in let second = block_walk d at n in
         let chosen = if is_true (constant_operand (constant_in at.scopes) c) then first else second in
         item at (if_else attrs p c b d) ∷ (if valued at c then chosen else [])
 
@@ -384,8 +380,7 @@ module _ (valued : Valued) (ms : List Module) (inner : Unfolding) where
 
     -- a turn of a loop
     pub turn_walk : Block → Place → List ℕ → List Step
-    turn_walk (begin p label xs) at path =
-        block_step at (begin p label xs) ∷ items_walk xs (block_place at path xs) 1
+    turn_walk (begin p label xs) at path = block_step at (begin p label xs) ∷ items_walk xs (block_place at path xs) 1
     turn_walk (region p xs) at path = block_step at (region p xs) ∷ items_walk xs (block_place at path xs) 1
     turn_walk (single x) at path =
         block_step at (single x) ∷ item_walk x (block_place at path (more_items x no_items)) 1
@@ -396,8 +391,7 @@ module _ (valued : Valued) (ms : List Module) (inner : Unfolding) where
         block_step at (begin p label xs)
         ∷ items_walk xs (block_place at (block_path at (block_name at.names n label)) xs) 1
     block_walk (region p xs) at n =
-        block_step at (region p xs)
-        ∷ items_walk xs (block_place at (block_path at (block_name at.names n None)) xs) 1
+        block_step at (region p xs) ∷ items_walk xs (block_place at (block_path at (block_name at.names n None)) xs) 1
     block_walk (single x) at n = block_step at (single x) ∷ item_walk x (single_place at n x) (single_number n x)
 
 -- ---- the whole
@@ -406,8 +400,7 @@ module _ (valued : Valued) (ms : List Module) (inner : Unfolding) where
 abbrev pub module_walk : Valued → ℕ → List Module → Unfolding
 module_walk valued zero ms m u path modules front = []
 module_walk valued (suc n) ms m u path modules front =
-    let at = module_place m u path modules in
-    let parameters = parameter_names (module_parameters m) in
+    let at = module_place m u path modules in let parameters = parameter_names (module_parameters m) in
     front ++ header_steps at (module_parameters m)
     ++ port_steps (with_earlier at parameters) u None (written_ports m.ports)
     ++ items_walk valued ms (λ m u path modules front. module_walk valued n ms m u path modules front) (items m.items)

@@ -27,28 +27,17 @@ Field = List ℕ × List ℕ
 -- the fields of a retirement, each with its width in bits
 abbrev pub fields : List Field
 fields =
-    (codes "rvfi_valid", codes "1")
-    ∷ (codes "rvfi_order", codes "64")
-    ∷ (codes "rvfi_insn", codes "32")
-    ∷ (codes "rvfi_trap", codes "1")
-    ∷ (codes "rvfi_halt", codes "1")
-    ∷ (codes "rvfi_intr", codes "1")
-    ∷ (codes "rvfi_mode", codes "2")
-    ∷ (codes "rvfi_ixl", codes "2")
-    ∷ (codes "rvfi_rs1_addr", codes "5")
-    ∷ (codes "rvfi_rs2_addr", codes "5")
-    ∷ (codes "rvfi_rs1_rdata", codes "32")
-    ∷ (codes "rvfi_rs2_rdata", codes "32")
-    ∷ (codes "rvfi_rd_addr", codes "5")
-    ∷ (codes "rvfi_rd_wdata", codes "32")
-    ∷ (codes "rvfi_pc_rdata", codes "32")
-    ∷ (codes "rvfi_pc_wdata", codes "32")
-    ∷ (codes "rvfi_mem_addr", codes "32")
-    ∷ (codes "rvfi_mem_rmask", codes "4")
-    ∷ (codes "rvfi_mem_wmask", codes "4")
-    ∷ (codes "rvfi_mem_rdata", codes "32")
-    ∷ (codes "rvfi_mem_wdata", codes "32")
-    ∷ []
+    (codes "rvfi_valid", codes "1") ∷ (codes "rvfi_order", codes "64")
+    ∷ (codes "rvfi_insn", codes "32") ∷ (codes "rvfi_trap", codes "1")
+    ∷ (codes "rvfi_halt", codes "1") ∷ (codes "rvfi_intr", codes "1")
+    ∷ (codes "rvfi_mode", codes "2") ∷ (codes "rvfi_ixl", codes "2")
+    ∷ (codes "rvfi_rs1_addr", codes "5") ∷ (codes "rvfi_rs2_addr", codes "5")
+    ∷ (codes "rvfi_rs1_rdata", codes "32") ∷ (codes "rvfi_rs2_rdata", codes "32")
+    ∷ (codes "rvfi_rd_addr", codes "5") ∷ (codes "rvfi_rd_wdata", codes "32")
+    ∷ (codes "rvfi_pc_rdata", codes "32") ∷ (codes "rvfi_pc_wdata", codes "32")
+    ∷ (codes "rvfi_mem_addr", codes "32") ∷ (codes "rvfi_mem_rmask", codes "4")
+    ∷ (codes "rvfi_mem_wmask", codes "4") ∷ (codes "rvfi_mem_rdata", codes "32")
+    ∷ (codes "rvfi_mem_wdata", codes "32") ∷ []
 
 -- `[ as many bits for each retirement ] name`
 abbrev ranged : Field → List ℕ
