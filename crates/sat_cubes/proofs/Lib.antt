@@ -1,0 +1,14 @@
+pub mod Begins
+pub mod Blocks
+pub mod Ends
+pub mod Liftings
+pub mod Lifts
+pub mod Merging
+pub mod Mirrors
+pub mod Others
+pub mod Renumbers
+pub mod Solves
+pub mod Standing
+pub mod Steps
+pub mod Turns
+pub mod Walks
