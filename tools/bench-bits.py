@@ -18,7 +18,8 @@ import made
 SIZES = """//! Prints the gates and clauses of nodes.
 #![tactic(auto)]
 
-use bb_clauses::clauses_of_nodes;
+use bb_blast::blast;
+use bb_clauses::clauses_of;
 use fv_base::Word;
 use std::alloc::Global;
 use std::test::Fail;
@@ -49,9 +50,10 @@ fn print_sizes(rt: &HostRuntime, what: &str, net: &Net, watch: &[NodeId]) -> Res
     for input in net.inputs() {
         widths.push(input.width)?;
     }
-    let made = clauses_of_nodes(alloc, widths.as_slice(), net.nodes(), &[], watch)?;
-    let gates = made.blasted.graph.len() - 1 - made.blasted.places.len();
-    println!(rt; "{what}: {gates} gates, {} clauses", made.formula.len())?;
+    let blasted = blast(alloc, widths.as_slice(), net.nodes(), &[], watch)?;
+    let formula = clauses_of(alloc, &blasted.graph, blasted.root)?;
+    let gates = blasted.graph.len() - 1 - blasted.places.len();
+    println!(rt; "{what}: {gates} gates, {} clauses", formula.len())?;
     Ok(())
 }
 

@@ -1,17 +1,19 @@
 #!/usr/bin/env python3
-"""Times one check of a core part by part, over a program that is made and compiled, without proofs, in a temporary
-folder. Not part of the gate.
+"""Times checks of a core part by part, over a program that is made and compiled, without proofs, in a temporary folder.
+Not part of the gate.
 
-    tools/bench-checks.py [--program PATH] [--keep PATH] CFG CHECK FILE.v ..
+    tools/bench-checks.py [--program PATH] [--keep PATH] [--gates] [--runs N] CFG CHECK FILE.v ..
 
 CFG is a configuration whose own files aren't read; the lines of its `[defines]` stand before the FILEs. Prints for each
 part what was made of it and its processor seconds, which are those of a run that ends behind it less those of a run
-that ends before it, and the memory of that run. The fastest of five runs counts. --keep leaves the program at PATH,
---program takes one that was left.
+that ends before it, and the memory of that run. The fastest of N runs counts, of five where nothing is said. Where CHECK is
+`all`, each check of CFG has a line, without its texts, and behind them stand the sums. --gates takes the clauses of gates in
+place of those of cuts. --keep leaves the program at PATH, --program takes one that was left.
 """
 import argparse
 import contextlib
 import os
+import re
 import shutil
 import subprocess
 import sys
@@ -19,20 +21,22 @@ import sys
 import made
 
 LIBRARIES = "vl_text vl_elab vl_flow vl_lower vl_prep vl_mean vl_tree rvfi_port rv_table ck_cfg ck_gen " \
-    "ck_design rvf_judge bm_decide bm_unroll bb_clauses bb_blast bb_aig cnf_text cnf_form " \
+    "ck_design rvf_judge bm_decide bm_unroll bb_cuts bb_clauses bb_blast bb_aig cnf_text cnf_form " \
     "lrat_check sat_search wn_net fv_base anyhow"
 
-PROGRAM = r"""//! Reads a letter and the name of a check, a configuration up to a line `.`, and a Verilog text, and goes
-//! as far with the check as the letter says. Says what was made.
+PROGRAM = r"""//! Reads a letter, the name of a check and `gates` or `cuts`, a configuration up to a line `.`, and a Verilog text, and
+//! goes as far with the check as the letter says, by clauses of these. Says what was made. `n` says the names of the
+//! checks.
 #![tactic(auto)]
 
 use anyhow::Result;
-use bb_blast::Blasted;
+use bb_blast::{Blasted, blast};
+use bb_clauses::clauses_of;
+use bb_cuts::{NodeClauses, clauses_of_nodes};
 use bm_decide::ChoiceBits;
 use bm_unroll::{Frames, unroll};
 use ck_cfg::{Check, Config, checks, read_cfg};
 use ck_gen::monitor;
-use bb_clauses::{Encoded, clauses_of_nodes};
 use cnf_text::dimacs;
 use fv_base::{List, Text};
 use lrat_check::{Step, lrat};
@@ -56,6 +60,7 @@ const BUDGET: u64 = 1_000_000;
 struct Asked<'a> {
     stage: u8,
     name: &'a str,
+    gates: bool,
 }
 
 fn nodes_of(c: &Channel) -> [NodeId; 19] {
@@ -65,11 +70,10 @@ fn nodes_of(c: &Channel) -> [NodeId; 19] {
     ]
 }
 
-fn texts(alloc: Global, names: &Names, check: &Check, frames: Frames, encoded: Encoded, steps: &List<Step>)
+fn texts(alloc: Global, names: &Names, check: &Check, frames: Frames, encoded: NodeClauses, steps: &List<Step>)
     -> Result<String> {
     let Frames { sources, widths, .. } = frames;
-    let Encoded { formula, blasted } = encoded;
-    let Blasted { places, watch, .. } = blasted;
+    let NodeClauses { formula, places, watch } = encoded;
     let bits = ChoiceBits { sources, widths, places };
     let notes = notes_of(alloc, names, &bits, watch.as_slice(), 0, check.cycle)?;
     let mut lines = List::new(alloc);
@@ -91,7 +95,7 @@ fn added(steps: &List<Step>) -> u64 {
     count
 }
 
-fn searched(alloc: Global, asked: Asked<'_>, names: &Names, check: &Check, frames: Frames, encoded: Encoded)
+fn searched(alloc: Global, asked: Asked<'_>, names: &Names, check: &Check, frames: Frames, encoded: NodeClauses)
     -> Result<String> {
     match solve(alloc, &encoded.formula, BUDGET)? {
         Found::Model(_values) => Ok(String::from_str(alloc, "a model")?),
@@ -104,6 +108,28 @@ fn searched(alloc: Global, asked: Asked<'_>, names: &Names, check: &Check, frame
         }
         Found::Spent(_steps) => Ok(String::from_str(alloc, "no budget")?),
     }
+}
+
+fn blasted(alloc: Global, frames: &Frames) -> Result<Blasted> {
+    Ok(blast(alloc, frames.widths.as_slice(), frames.nodes.as_slice(), frames.roots.as_slice(),
+        frames.watch.as_slice())?)
+}
+
+fn of_gates(alloc: Global, frames: &Frames) -> Result<NodeClauses> {
+    let made = blasted(alloc, frames)?;
+    let formula = clauses_of(alloc, &made.graph, made.root)?;
+    Ok(NodeClauses { formula, places: made.places, watch: made.watch })
+}
+
+fn listed(alloc: Global, config: &Config) -> Result<String> {
+    let mut names = String::new(alloc);
+    for check in checks(alloc, config)?.as_slice() {
+        for byte in check.name.bytes() {
+            names.push(char::from(*byte))?;
+        }
+        names.push(' ')?;
+    }
+    Ok(names)
 }
 
 fn judged(alloc: Global, asked: Asked<'_>, net: &Net, names: &Names, port: &Port, check: &Check, opts: Opts)
@@ -121,12 +147,20 @@ fn judged(alloc: Global, asked: Asked<'_>, net: &Net, names: &Names, port: &Port
         let sources = frames.sources.len();
         return Ok(format!(in alloc; "{nodes} nodes, {sources} sources")?);
     }
-    let encoded = clauses_of_nodes(alloc, frames.widths.as_slice(), frames.nodes.as_slice(), frames.roots.as_slice(),
-        frames.watch.as_slice())?;
     if asked.stage == b'b' {
-        let gates = encoded.blasted.graph.len();
+        let gates = blasted(alloc, &frames)?.graph.len();
+        return Ok(format!(in alloc; "{gates} nodes of bits")?);
+    }
+    let encoded = if asked.gates {
+        of_gates(alloc, &frames)?
+    } else {
+        clauses_of_nodes(alloc, frames.widths.as_slice(), frames.nodes.as_slice(), frames.roots.as_slice(),
+            frames.watch.as_slice())?
+    };
+    if asked.stage == b'k' {
+        let variables = encoded.formula.vars();
         let clauses = encoded.formula.len();
-        return Ok(format!(in alloc; "{gates} nodes of bits, {clauses} clauses")?);
+        return Ok(format!(in alloc; "{variables} variables, {clauses} clauses")?);
     }
     searched(alloc, asked, names, check, frames, encoded)
 }
@@ -174,6 +208,9 @@ fn answer(alloc: Global, asked: Asked<'_>, cfg: &[u8], text: &[u8]) -> Result<St
     if asked.stage == b'c' {
         return Ok(String::from_str(alloc, "")?);
     }
+    if asked.stage == b'n' {
+        return listed(alloc, &config);
+    }
     let core = Core { compressed: config.isa.c, retirements: Retirements::One };
     let texts = [SourceText { file: 1, line: 1, bytes: text }];
     let Ok((tree, macros)) = read_source(alloc, core, &texts, &[]) else {
@@ -213,14 +250,15 @@ fn main(rt: HostRuntime) -> Result<()> {
         stage = *byte;
     }
     let name = words.next().unwrap_or("");
-    let said = answer(alloc, Asked { stage, name }, cfg.as_bytes(), text.as_bytes())?;
+    let gates = words.next().unwrap_or("cuts") == "gates";
+    let said = answer(alloc, Asked { stage, name, gates }, cfg.as_bytes(), text.as_bytes())?;
     println!(rt; "{said}")?;
     Ok(())
 }
 """
 
 PARTS = [("r", "reading"), ("e", "elaborating"), ("o", "ordering"), ("l", "lowering"), ("m", "monitor"),
-         ("u", "unrolling"), ("b", "bits and clauses"), ("s", "search"), ("t", "texts")]
+         ("u", "unrolling"), ("b", "bits"), ("k", "clauses, with the bits"), ("s", "search"), ("t", "texts")]
 
 
 def defines(cfg):
@@ -244,14 +282,47 @@ def run(program, text):
     return said, usage.ru_utime + usage.ru_stime, usage.ru_maxrss // 1024
 
 
-def fastest(program, text):
-    return min((run(program, text) for _ in range(5)), key=lambda found: found[1])
+def fastest(program, text, runs):
+    return min((run(program, text) for _ in range(runs)), key=lambda found: found[1])
+
+
+def one(program, asked, runs):
+    """Prints the parts of one check. Bits are made within the clauses, so their own run is in no other part."""
+    _, before, _ = fastest(program, "c" + asked, runs)
+    start, total, earlier = before, 0.0, before
+    for letter, part in PARTS:
+        said, seconds, memory = fastest(program, letter + asked, runs)
+        if letter == "b":
+            earlier = before
+        if letter == "k":
+            before = earlier
+        print(f"{part}: {said}; {seconds - before:.3f} s, {memory} MB", flush=True)
+        before, total = seconds, seconds - start
+    print(f"together {total:.3f} s", flush=True)
+
+
+def each(program, rest, runs):
+    """Prints a line for each check, and the sums: variables, clauses, learnt clauses, seconds of clauses and search."""
+    sums = [0, 0, 0, 0.0, 0.0]
+    for name in run(program, f"n x{rest}")[0].split():
+        asked = f" {name}{rest}"
+        _, framed, _ = fastest(program, "u" + asked, runs)
+        told, made_at, _ = fastest(program, "k" + asked, runs)
+        said, found, memory = fastest(program, "s" + asked, runs)
+        variables, clauses = (int(number) for number in re.findall(r"[0-9]+", told))
+        learnt = int((re.findall(r"[0-9]+", said) or ["0"])[0])
+        row = [variables, clauses, learnt, made_at - framed, found - made_at]
+        sums = [sum(pair) for pair in zip(sums, row)]
+        print(f"{name}: {told}; {said}; {row[3]:.3f} and {row[4]:.3f} s, {memory} MB", flush=True)
+    print(f"all: {sums[0]} variables, {sums[1]} clauses, {sums[2]} learnt, {sums[3]:.2f} and {sums[4]:.2f} s")
 
 
 def main():
     options = argparse.ArgumentParser()
     options.add_argument("--program")
     options.add_argument("--keep")
+    options.add_argument("--gates", action="store_true")
+    options.add_argument("--runs", type=int, default=5)
     options.add_argument("cfg")
     options.add_argument("check")
     options.add_argument("files", nargs="+")
@@ -263,14 +334,11 @@ def main():
     with built as program:
         if options.keep:
             shutil.copy(program, options.keep)
-        asked = f" {options.check}\n{cfg}\n.\n{text}"
-        _, before, _ = fastest(program, "c" + asked)
-        start, total = before, 0.0
-        for letter, part in PARTS:
-            said, seconds, memory = fastest(program, letter + asked)
-            print(f"{part}: {said}; {seconds - before:.3f} s, {memory} MB", flush=True)
-            before, total = seconds, seconds - start
-        print(f"together {total:.3f} s", flush=True)
+        rest = f" {'gates' if options.gates else 'cuts'}\n{cfg}\n.\n{text}"
+        if options.check == "all":
+            each(program, rest, options.runs)
+        else:
+            one(program, f" {options.check}{rest}", options.runs)
 
 
 if __name__ == "__main__":

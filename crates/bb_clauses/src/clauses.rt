@@ -38,8 +38,10 @@ fn to_literal(vars: u64, lit: Lit) -> i64
     if lit % 2 == 1 { -var } else { var }
 }
 
-/// Adds the clause of these literals, where it says anything.
-fn push_clause(alloc: Global, formula: &mut Formula, lits: &[Lit]) -> Result<(), Memory>
+/// Adds the clause of these literals, where it says anything: not where one is 1, which is true, and without those that
+/// are 0, which is false. A literal is twice the number of a variable, and 1 more where it is negated. The only error is
+/// that no memory is left, and the clauses are then as they were.
+pub fn push_clause(alloc: Global, formula: &mut Formula, lits: &[Lit]) -> Result<(), Memory>
     requires { AllByRecursion (λ l. l < 2 * formula.old.vars + 2) lits.now }
     ensures clauses { OnOk result (formula.new.clauses ≡ formula.old.clauses ++ spec.clause_of [] lits.now) }
     ensures vars { formula.new.vars ≡ formula.old.vars }
@@ -57,8 +59,9 @@ fn push_clause(alloc: Global, formula: &mut Formula, lits: &[Lit]) -> Result<(),
     formula.push(taken.as_slice())
 }
 
-/// Says that a literal is that of both.
-fn push_and(alloc: Global, formula: &mut Formula, lit: Lit, a: Lit, b: Lit) -> Result<(), Memory>
+/// Says by three clauses that a literal is true exactly where both others are; those that say nothing aren't added. The
+/// only error is that no memory is left, and some of the three may then stand.
+pub fn push_and(alloc: Global, formula: &mut Formula, lit: Lit, a: Lit, b: Lit) -> Result<(), Memory>
     requires whole { lit < 2 * formula.old.vars + 2 }
     requires left { a < 2 * formula.old.vars + 2 }
     requires right { b < 2 * formula.old.vars + 2 }
@@ -91,8 +94,8 @@ fn push_node(
     }
 }
 
-/// Says that a variable is true.
-fn push_true(formula: &mut Formula, var: u64) -> Result<(), Memory>
+/// Says that a variable is true. The only error is that no memory is left.
+pub fn push_true(formula: &mut Formula, var: u64) -> Result<(), Memory>
     requires some { 1 ≤ var }
     requires within { var ≤ formula.old.vars }
     requires few { var ≤ 2 ^ 62 }

@@ -1,11 +1,6 @@
-//! The clauses of gates and of nodes.
-//!
-//! - Graphs as clauses.
-//! - The clauses of nodes: their models are the numbers of sources for which all roots are other than 0.
+//! The clauses of a graph, and what models of clauses are of nodes that a graph was made of.
 #![tactic(auto)]
 
 mod clauses;
-mod models;
 
-pub use clauses::clauses_of;
-pub use models::{Encoded, clauses_of_nodes};
+pub use clauses::{clauses_of, push_and, push_clause, push_true};

@@ -1,92 +1,15 @@
 //! Clauses over variables.
-ghost use Rattle.std.specs.Prelude.{
-  ◌≡◌,
-  ℕ,
-  ◌+◌,
-  ◌*◌,
-  ◌<◌,
-  ◌≤◌,
-  ◌^◌,
-  [],
-  ◌++◌,
-  ◌∷◌,
-  OnOk,
-  pos,
-};
-ghost use Rattle.std.specs.List.{AllByRecursion};
-ghost use Rattle.cnf_form.specs.Cnf.{IsLiteral};
-ghost use Rattle.bb_clauses.specs.Clauses.{clause_of, and_clauses};
-ghost use Rattle.bb_clauses.specs.Clauses as spec;
+ghost use Rattle.std.specs.Prelude.{◌≡◌, ◌+◌, ◌*◌, ◌<◌, ◌≤◌, ◌^◌, ◌++◌, OnOk};
 ghost use Rattle.bb_cuts.specs.Covers as covers;
 ghost use Rattle.bb_cuts.specs.Covers.{cube_clause, cover_clauses};
 
 use crate::cube::{Cube, Sign};
 use crate::leaves::Leaves;
-use bb_aig::{Lit, complement};
+use bb_aig::Lit;
+use bb_clauses::push_clause;
 use cnf_form::Formula;
 use fv_text::Memory;
 use std::alloc::Global;
-
-/// A literal of a variable other than variable 0.
-fn to_literal(vars: u64, lit: Lit) -> i64
-    requires some { 2 ≤ lit }
-    requires below { lit < 2 * vars + 2 }
-    requires few { vars < 2 ^ 63 }
-    ensures value { result ≡ spec.to_literal lit }
-    ensures names { IsLiteral vars result }
-{
-    let var = (lit / 2) as i64;
-    if lit % 2 == 1 { -var } else { var }
-}
-
-/// Adds the clause of these literals, where it says anything.
-pub(crate) fn push_clause(alloc: Global, formula: &mut Formula, lits: &[Lit]) -> Result<(), Memory>
-    requires { AllByRecursion (λ l. l < 2 * formula.old.vars + 2) lits.now }
-    ensures clauses { OnOk result (formula.new.clauses ≡ formula.old.clauses ++ clause_of [] lits.now) }
-    ensures vars { formula.new.vars ≡ formula.old.vars }
-{
-    let vars = formula.vars();
-    let mut taken = Vec::new(alloc);
-    for lit in lits {
-        if *lit == 1 {
-            return Ok(());
-        }
-        if *lit != 0 {
-            taken.push(to_literal(vars, *lit))?;
-        }
-    }
-    formula.push(taken.as_slice())
-}
-
-/// Says that a variable is a literal.
-pub(crate) fn push_same(
-    alloc: Global,
-    formula: &mut Formula,
-    var: u64,
-    lit: Lit,
-) -> Result<(), Memory>
-    requires whole { var ≤ formula.old.vars }
-    requires there { lit < 2 * formula.old.vars + 2 }
-    requires few { formula.old.vars ≤ 2 ^ 62 }
-    ensures clauses { OnOk result (formula.new.clauses ≡ formula.old.clauses ++ and_clauses (2 * var) lit 1) }
-    ensures vars { formula.new.vars ≡ formula.old.vars }
-{
-    let own = 2 * var;
-    push_clause(alloc, formula, &[complement(own), lit])?;
-    push_clause(alloc, formula, &[complement(own), 1])?;
-    push_clause(alloc, formula, &[own, complement(lit), complement(1)])
-}
-
-/// Says that a variable is true.
-pub(crate) fn push_true(formula: &mut Formula, var: u64) -> Result<(), Memory>
-    requires some { 1 ≤ var }
-    requires within { var ≤ formula.old.vars }
-    requires few { var ≤ 2 ^ 62 }
-    ensures clauses { OnOk result (formula.new.clauses ≡ formula.old.clauses ++ (pos var ∷ []) ∷ []) }
-    ensures vars { formula.new.vars ≡ formula.old.vars }
-{
-    formula.push(&[var as i64])
-}
 
 /// The literal that is true where a leaf hasn't the value that is asked for: false where nothing is asked.
 fn sign_literal(sign: Sign, var: u64) -> Lit

@@ -25,7 +25,7 @@ ghost use Rattle.bb_cuts.specs.Covers.{IsCover};
 ghost use Rattle.bb_cuts.specs.declared.leaves.Leaves.{Leaves};
 ghost use Rattle.bb_cuts.specs.Variables.{AreTold, IsTable, TellsCuts};
 
-use crate::clause::{push_cover, push_same, push_true};
+use crate::clause::push_cover;
 use crate::cone::{Mark, table_of};
 use crate::cube::{Rows, cover_rows, other_rows};
 use crate::cuts::{Cell, cells_of, cone_of};
@@ -33,6 +33,7 @@ use crate::leaves::Leaves;
 use crate::primes::{Cover, Covers};
 use crate::variables::{literal_of, variables_of, words_of};
 use bb_aig::{Aig, Lit};
+use bb_clauses::{push_and, push_true};
 use cnf_form::Formula;
 use fv_text::{List, Memory};
 use std::alloc::Global;
@@ -209,7 +210,7 @@ fn finish(
     let Some(words) = words_of(alloc, nodes, guesses, watch)? else {
         return Ok(None);
     };
-    push_same(alloc, &mut formula, var, own)?;
+    push_and(alloc, &mut formula, 2 * var, own, 1)?;
     push_true(&mut formula, var)?;
     Ok(Some(CutClauses { formula, words }))
 }

@@ -27,8 +27,8 @@ pub struct NodeClauses {
     pub watch: List<List<Lit>>,
 }
 
-/// A graph with fewer nodes than these has a variable for each gate: cuts save little there.
-const FEW_NODES: usize = 1000;
+/// A graph with fewer gates than these has a variable for each: cuts save little there.
+const FEW_GATES: u64 = 1000;
 
 /// The clauses of cuts, for a graph that isn't small.
 fn cuts_of(alloc: Global, blasted: &Blasted) -> Result<Option<CutClauses>, Memory>
@@ -36,7 +36,9 @@ fn cuts_of(alloc: Global, blasted: &Blasted) -> Result<Option<CutClauses>, Memor
     ensures { IfOk result (λ o. IfSome o (λ told. TellsCuts blasted.now.graph blasted.now.root blasted.now.watch
         told.words told.formula)) }
 {
-    if blasted.graph.len() < FEW_NODES {
+    let others = blasted.graph.inputs().saturating_add(1);
+    let gates = (blasted.graph.len() as u64).saturating_sub(others);
+    if gates < FEW_GATES {
         return Ok(None);
     }
     clauses_of_cuts(

@@ -18,7 +18,7 @@ abbrev pub bits_of : RunClauses → ChoiceBits
 bits_of c = record {
   sources = c.frames.sources;
   widths = c.frames.widths;
-  places = c.encoded.blasted.places;
+  places = c.encoded.places;
 }
 
 abbrev pub certificate_of : RunClauses → List Step → Certificate
@@ -26,7 +26,7 @@ certificate_of c steps = record {
   formula = c.encoded.formula;
   steps = steps;
   bits = bits_of c;
-  fields = c.encoded.blasted.watch;
+  fields = c.encoded.watch;
 }
 
 abbrev pub verdict_of : RunClauses → Found → Verdict

@@ -5,8 +5,7 @@ ghost use Rattle.bm_decide.specs.Settled.{Settles, verdict_of};
 use crate::runs::RunClauses;
 use crate::search::Search;
 use crate::verdict::{Certificate, ChoiceBits, Verdict, Witness};
-use bb_blast::Blasted;
-use bb_clauses::Encoded;
+use bb_cuts::NodeClauses;
 use bm_unroll::Frames;
 use fv_text::Memory;
 use sat_search::Found;
@@ -43,12 +42,11 @@ fn verdict(clauses: RunClauses, found: Found) -> Verdict
         widths,
         ..
     } = frames;
-    let Encoded { formula, blasted } = encoded;
-    let Blasted {
+    let NodeClauses {
+        formula,
         places,
         watch: fields,
-        ..
-    } = blasted;
+    } = encoded;
     let bits = ChoiceBits {
         sources,
         widths,

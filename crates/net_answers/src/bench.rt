@@ -54,7 +54,7 @@ impl Bench {
             "undo" => self.undone(out, node_at(part, 1)),
             "eval" => self.evaluated(out, part),
             "step" => self.stepped(out, part),
-            "sources" | "places" | "run" | "gates" | "clauses" => runs::answer(
+            "sources" | "places" | "run" | "gates" | "clauses" | "cuts" | "models" => runs::answer(
                 self.alloc, &self.net, out, part,
             ),
             _ => self.made(part),

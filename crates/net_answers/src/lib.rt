@@ -29,6 +29,8 @@
 //! | `places CYCLE BAD A` | the node of the graph that each bit of what may be chosen is |
 //! | `gates CYCLE BAD A` | how many nodes the graph has, how many clauses it comes to, and the literals of `A` |
 //! | `clauses CYCLE BAD A` | how many variables there are, and the clauses |
+//! | `cuts CYCLE BAD A` | how many variables and clauses there are by cuts, however small the graph is |
+//! | `models CYCLE BAD A` | how many models these have without the last, and how many are as the graph has it |
 //!
 //! `BAD` counts where it is other than 0 in that cycle and the assumptions were met up to it. Both answers of `run`
 //! are read from the graph. A part that doesn't fit the net is answered `refused`. This crate says what the crates
@@ -36,7 +38,9 @@
 #![tactic(auto)]
 
 mod bench;
+mod graph;
 mod make;
+mod models;
 mod part;
 mod rebuild;
 mod runs;

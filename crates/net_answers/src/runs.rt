@@ -1,8 +1,9 @@
-//! What is asked of the runs of a net: what may be chosen, gates, clauses, and numbers under choices.
+//! What is asked of the runs of a net: what may be chosen, and clauses.
 
-use crate::part::{node_at, numbers_from, short_at, word};
-use crate::show;
-use bb_aig::Lit;
+ghost use Rattle.bm_unroll.specs.Frames.{IsFrames};
+
+use crate::graph;
+use crate::part::{node_at, short_at, word};
 use bm_decide::{RunClauses, clauses_of_runs};
 use bm_unroll::{Source, is_within};
 use cnf_form::{Formula, clause_at};
@@ -27,13 +28,14 @@ pub(crate) fn answer(
     put(alloc, out, &made, part)
 }
 
-fn put(alloc: Global, out: &mut String, made: &RunClauses, part: &str) -> Result<bool, Memory> {
+fn put(alloc: Global, out: &mut String, made: &RunClauses, part: &str) -> Result<bool, Memory>
+    requires { IsFrames made.now.frames }
+{
     match word(part, 0) {
         "sources" => put_sources(out, made.frames.sources.as_slice())?,
         "places" => put_places(out, made)?,
-        "gates" => put_gates(out, made)?,
         "clauses" => put_clauses(out, &made.encoded.formula)?,
-        _ => return run(alloc, out, made, numbers_from(alloc, part, 4)?.as_slice()),
+        _ => return graph::answer(alloc, out, made, part),
     }
     Ok(true)
 }
@@ -62,27 +64,9 @@ fn put_sources(out: &mut String, sources: &[Source]) -> Result<(), Memory> {
 
 /// The number of a source, a bit of it, and the node of the graph that is this bit.
 fn put_places(out: &mut String, made: &RunClauses) -> Result<(), Memory> {
-    for place in made.encoded.blasted.places.as_slice() {
+    for place in made.encoded.places.as_slice() {
         put_comma(out)?;
         write!(out, "{}.{} {}", place.source, place.bit, place.node)?;
-    }
-    Ok(())
-}
-
-/// The literals of the watched node.
-fn watched(made: &RunClauses) -> &[Lit] {
-    match made.encoded.blasted.watch.get(0) {
-        Some(lits) => lits.as_slice(),
-        None => &[],
-    }
-}
-
-fn put_gates(out: &mut String, made: &RunClauses) -> Result<(), Memory> {
-    let nodes = made.encoded.blasted.graph.len();
-    let clauses = made.encoded.formula.len();
-    write!(out, "{nodes} nodes, {clauses} clauses:")?;
-    for lit in watched(made) {
-        write!(out, " {lit}")?;
     }
     Ok(())
 }
@@ -96,58 +80,4 @@ fn put_clauses(out: &mut String, formula: &Formula) -> Result<(), Memory> {
         }
     }
     Ok(())
-}
-
-/// The bits of numbers of these widths, the lowest first.
-fn bits(alloc: Global, widths: &[u32], numbers: &[u128]) -> Result<Vec<bool>, Memory> {
-    let mut bits = Vec::new(alloc);
-    for (index, width) in widths.iter().enumerate() {
-        let mut left = numbers.get(index).copied().unwrap_or(0);
-        for _ in 0..*width {
-            bits.push(left % 2 == 1)?;
-            left /= 2;
-        }
-    }
-    Ok(bits)
-}
-
-fn is_true(values: &[bool], lit: Lit) -> bool {
-    match values.get((lit / 2) as usize) {
-        Some(value) => *value != (lit % 2 == 1),
-        None => false,
-    }
-}
-
-/// Whether the root is true, and the number of the watched node, where sources have these numbers.
-fn run(
-    alloc: Global,
-    out: &mut String,
-    made: &RunClauses,
-    numbers: &[u128],
-) -> Result<bool, Memory> {
-    let graph = &made.encoded.blasted.graph;
-    let widths = made.frames.widths.as_slice();
-    let bits = bits(alloc, widths, numbers)?;
-    if numbers.len() != widths.len() || bits.len() as u64 != graph.inputs() {
-        return Ok(false);
-    }
-    let mut values = vec![in alloc; false; graph.len()]?;
-    graph.eval(bits.as_slice(), values.as_mut_slice());
-    put_end(out, made, values.as_slice())
-}
-
-/// The root and the watched node where the nodes of the graph have these values.
-fn put_end(out: &mut String, made: &RunClauses, values: &[bool]) -> Result<bool, Memory> {
-    write!(out, "{} ", is_true(values, made.encoded.blasted.root))?;
-    show::put_number(out, number_of(values, watched(made)))?;
-    Ok(true)
-}
-
-/// The number whose bits the literals are, the lowest first.
-fn number_of(values: &[bool], lits: &[Lit]) -> u128 {
-    let mut number = 0u128;
-    for lit in lits.iter().rev() {
-        number = number.wrapping_mul(2) | u128::from(is_true(values, *lit));
-    }
-    number
 }

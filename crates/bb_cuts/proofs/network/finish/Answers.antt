@@ -13,6 +13,6 @@ returns c = λ graph g told.
     let count : c.args.formula.vars ≡ length nodes = cc (c.vars.ensures.value, c.if-var-vars.false) in
     tells_cuts graph nodes c.args.formula.clauses var c.in-Some.own c.args.root c.args.watch.now c.in-Some-2.words
     c.push_true.new.formula told c.in-Some.ensures words refl
-    (c.in_ok-push_true.ensures.vars ∙ c.in_ok-push_same.ensures.vars ∙ count)
+    (c.in_ok-push_true.ensures.vars ∙ c.in_ok-push_and.ensures.vars ∙ count)
     (c.in_ok-push_true.ensures.clauses
-    ∙ ap (λ cs. cs ++ (pos var ∷ []) ∷ []) c.in_ok-push_same.ensures.clauses)
+    ∙ ap (λ cs. cs ++ (pos var ∷ []) ∷ []) c.in_ok-push_and.ensures.clauses)

@@ -84,19 +84,19 @@ returns g c =
     let P : List ℕ → Type 0 = λ ns. AreNodes net ns in
     let there : AreNodes net ids = subst P (sym channel_is)
     (nodes_there net x (own net port.channels i c.requires.port.channels within)) in
-    let read = read_at made.encoded.blasted.places made.frames.widths in
+    let read = read_at made.encoded.places made.frames.widths in
     let K = question_cycle q in
     let last : c.cycle.result ≡ K = c.cycle.ensures in
     let S : ℕ → Type 0 = λ k. AllByRecursion (IsChoice new k) made.frames.sources in
     let sources : AllByRecursion (IsChoice new K) made.frames.sources = subst S last c.in_ok-clauses.ensures.sources in
     let M : ℕ → Type 0 = λ k. ModelsAreRuns new (IsBadRun new c.in_ok-bad.bad k) (values_in new k ids)
-    made.frames.sources read made.encoded.blasted.watch formula in
+    made.frames.sources read made.encoded.watch formula in
     let models = subst M last c.in_ok-clauses.ensures.models in
     let runs = tight net new added.registers port q opts c.in_ok-bad.bad ids made.frames.sources read
-    made.encoded.blasted.watch formula c.nodes.ensures.whole c.nodes-2.ensures.whole known c.requires.port there
+    made.encoded.watch formula c.nodes.ensures.whole c.nodes-2.ensures.whole known c.requires.port there
     c.in_ok-bad.ensures.tells sources models in
     let Q : List ℕ → Type 0 = λ ns. ModelsAreRuns net (Gives net port q opts) (values_in net K ns)
-    made.frames.sources read made.encoded.blasted.watch formula in
+    made.frames.sources read made.encoded.watch formula in
     let fields : ids ≡ field_nodes port q = channel_is ∙ nodes_at port.channels i no_channel within in
     let bits : AreBitsOf net K (bits_of made) = record {
       sources = old_choices net new added.registers K made.frames.sources known sources;

@@ -1,10 +1,9 @@
-use Rattle.std.specs.Prelude.{◌<◌, ℕ, List, [], length, map, slice_index}
+use Rattle.std.specs.Prelude.{◌≡◌, ◌<◌, ℕ, List, [], length, map, slice_index}
 use Rattle.std.specs.List.{AllByRecursion}
 use Rattle.std.proofs.Common.{ap, sym, ◌∙◌, subst, arith}
 use Rattle.wn_net.specs.declared.node.Node.{Node}
 use Rattle.wn_net.specs.Width.{IsWidth, AreFitting}
-use Rattle.bb_words.specs.Words.{AreWords}
-use Rattle.bb_blast.specs.Choice.{numbers_of, all_places}
+use Rattle.bb_blast.specs.Choice.{all_places}
 use Rattle.bb_blast.specs.Walk.{AreWidths, all_other_than_0, sources, values_by, widths_by}
 use Rattle.bb_clauses.specs.Models.{ModelsAreNumbers, read_at}
 use Rattle.bm_unroll.proofs.Items.{all_at}
@@ -53,7 +52,7 @@ pub returns-clause-models : goal.returns-clause-models
 returns-clause-models c =
     let f = c.in_ok-frames.frames in
     let formula = c.in_ok-encoded.encoded.formula in
-    let b = c.in_ok-encoded.encoded.blasted in
+    let b = c.in_ok-encoded.encoded in
     let ns = c.as_slice-nodes.result.now in
     let rs = c.as_slice-roots.result.now in
     let ids = c.as_slice-watched.result.now in
@@ -76,15 +75,13 @@ returns-clause-places c = c.in_ok-encoded.ensures.places ∙ ap (all_places 0 0)
 pub returns-clause-bits : goal.returns-clause-bits
 returns-clause-bits c =
     let f = c.in_ok-frames.frames in
-    let b = c.in_ok-encoded.encoded.blasted in
+    let b = c.in_ok-encoded.encoded in
     let ns = c.as_slice-nodes.result.now in
     let ids = c.as_slice-watched.result.now in
-    let W : List ℕ → Type 0 = λ ws. AreWords b.graph (map (λ i. slice_index (widths_by ws ns) i) ids)
-    (λ x. map (λ i. slice_index (values_by ws ns (numbers_of ws x)) i) ids) b.watch in
-    let N : List Node → Type 0 = λ nodes. AreWords b.graph (map (λ i. slice_index (widths_by f.widths nodes) i) ids)
-    (λ x. map (λ i. slice_index (values_by f.widths nodes (numbers_of f.widths x)) i) ids) b.watch in
-    let R : List ℕ → Type 0 = λ watch. AreWords b.graph
-    (map (λ i. slice_index (widths_by f.widths f.nodes) i) watch)
-    (λ x. map (λ i. slice_index (values_by f.widths f.nodes (numbers_of f.widths x)) i) watch) b.watch in
+    let Of : List ℕ → List Node → List ℕ → Type 0 = λ ws nodes watch.
+    map length b.watch ≡ map (λ i. slice_index (widths_by ws nodes) i) watch in
+    let W : List ℕ → Type 0 = λ ws. Of ws ns ids in
+    let N : List Node → Type 0 = λ nodes. Of f.widths nodes ids in
+    let R : List ℕ → Type 0 = λ watch. Of f.widths f.nodes watch in
     subst R c.as_slice-watched.ensures (subst N c.as_slice-nodes.ensures
     (subst W c.as_slice-widths.ensures c.in_ok-encoded.ensures.watch))
