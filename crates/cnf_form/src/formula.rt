@@ -130,7 +130,7 @@ pub fn are_literals(lits: &[i64], vars: u64) -> bool
 }
 
 /// Whether the literal is not 0 and names one of so many variables.
-pub fn is_literal(lit: &i64, vars: u64) -> bool
+pub(crate) fn is_literal(lit: &i64, vars: u64) -> bool
     ensures { IsTrue result ↔ IsLiteral vars lit.now }
 {
     let var = lit.unsigned_abs();

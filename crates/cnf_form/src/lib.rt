@@ -4,4 +4,4 @@
 mod formula;
 mod shared;
 
-pub use formula::{Formula, are_literals, clause_at, is_literal};
+pub use formula::{Formula, are_literals, clause_at};

@@ -142,7 +142,7 @@ fn divide(net: &mut Net, a: NodeId, b: NodeId) -> Result<Division, Memory>
 }
 
 /// The quotient of two words: all ones where the divisor is 0.
-pub fn quotient(net: &mut Net, a: NodeId, b: NodeId) -> Result<NodeId, Memory>
+pub(crate) fn quotient(net: &mut Net, a: NodeId, b: NodeId) -> Result<NodeId, Memory>
     requires left { IsNodeOf net.old 32 a }
     requires right { IsNodeOf net.old 32 b }
     ensures adds { AddsNodes net.old net.new }
@@ -157,7 +157,7 @@ pub fn quotient(net: &mut Net, a: NodeId, b: NodeId) -> Result<NodeId, Memory>
 }
 
 /// What is left of the division of two words: the dividend where the divisor is 0.
-pub fn remainder(net: &mut Net, a: NodeId, b: NodeId) -> Result<NodeId, Memory>
+pub(crate) fn remainder(net: &mut Net, a: NodeId, b: NodeId) -> Result<NodeId, Memory>
     requires left { IsNodeOf net.old 32 a }
     requires right { IsNodeOf net.old 32 b }
     ensures adds { AddsNodes net.old net.new }

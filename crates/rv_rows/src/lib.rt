@@ -14,7 +14,6 @@ mod outcome;
 mod rows;
 mod signed;
 
-pub use division::{Division, quotient, remainder};
+pub use division::Division;
 pub use outcome::OutcomeNodes;
 pub use rows::base_effect;
-pub use signed::{quotient_signed, remainder_signed};

@@ -121,7 +121,7 @@ fn rounded_quotient(net: &mut Net, a: NodeId, b: NodeId) -> Result<NodeId, Memor
 }
 
 /// The quotient of two signed words, rounded to 0: all ones where the divisor is 0.
-pub fn quotient_signed(net: &mut Net, a: NodeId, b: NodeId) -> Result<NodeId, Memory>
+pub(crate) fn quotient_signed(net: &mut Net, a: NodeId, b: NodeId) -> Result<NodeId, Memory>
     requires left { IsNodeOf net.old 32 a }
     requires right { IsNodeOf net.old 32 b }
     ensures adds { AddsNodes net.old net.new }
@@ -137,7 +137,7 @@ pub fn quotient_signed(net: &mut Net, a: NodeId, b: NodeId) -> Result<NodeId, Me
 }
 
 /// What is left of the division of two signed words, with the dividend's sign: the dividend where the divisor is 0.
-pub fn remainder_signed(net: &mut Net, a: NodeId, b: NodeId) -> Result<NodeId, Memory>
+pub(crate) fn remainder_signed(net: &mut Net, a: NodeId, b: NodeId) -> Result<NodeId, Memory>
     requires left { IsNodeOf net.old 32 a }
     requires right { IsNodeOf net.old 32 b }
     ensures adds { AddsNodes net.old net.new }

@@ -24,4 +24,4 @@ pub use lanes::{
 pub use matching::hit;
 pub use products::{upper_product, upper_product_mixed, upper_product_signed};
 pub use step::StepNodes;
-pub use tests::{equal, is_number, is_taken, isnt_number, less, less_signed, truth, unless_x0};
+pub use tests::{equal, is_number, is_taken, isnt_number, less, truth, unless_x0};

@@ -74,7 +74,7 @@ fn not_less(net: &mut Net, a: NodeId, b: NodeId) -> Result<NodeId, Memory>
 }
 
 /// 1 where the first word is less, both signed.
-pub fn less_signed(net: &mut Net, a: NodeId, b: NodeId) -> Result<NodeId, Memory>
+pub(crate) fn less_signed(net: &mut Net, a: NodeId, b: NodeId) -> Result<NodeId, Memory>
     requires left { IsNodeOf net.old 32 a }
     requires right { IsNodeOf net.old 32 b }
     ensures adds { AddsNodes net.old net.new }

@@ -20,5 +20,3 @@ mod texts;
 pub use choice::choice_notes;
 pub use judged::{CertificateTexts, Judged};
 pub use judging::judge;
-pub use line::note_text;
-pub use notes::notes_of;

@@ -69,7 +69,7 @@ fn line_text(
 }
 
 /// The note as a line without its end.
-pub fn note_text(alloc: Global, note: &Note) -> Result<Text, Memory>
+pub(crate) fn note_text(alloc: Global, note: &Note) -> Result<Text, Memory>
     ensures { IfOk result (λ text. text ≡ lines.note_text note.now) }
 {
     line_text(alloc, note.literal, note.cycle, note.bit, &note.name)

@@ -12,7 +12,7 @@ use std::alloc::Global;
 use wn_net::Names;
 
 /// The notes of the choices, and of the fields of a channel in a cycle, whose literals these are.
-pub fn notes_of(
+pub(crate) fn notes_of(
     alloc: Global,
     names: &Names,
     bits: &ChoiceBits,

@@ -107,7 +107,7 @@ impl Field {
     }
 
     /// Whether each channel has it.
-    pub fn is_per_channel(self) -> bool
+    pub(crate) fn is_per_channel(self) -> bool
         ensures { result ≡ fields.is_per_channel self }
     {
         !matches!(self, Field::ImemAddr | Field::ImemData | Field::DmemAddr)

@@ -85,7 +85,7 @@ impl<'a> Ledger<'a> {
     }
 
     /// The clauses that were deleted and not learnt again.
-    pub fn dropped(&self) -> &ClauseSet
+    pub(crate) fn dropped(&self) -> &ClauseSet
         ensures { result.now ≡ self.now.dropped }
     {
         &self.dropped
@@ -124,7 +124,7 @@ impl<'a> Ledger<'a> {
 
     /// Lets go of learnt clauses that aren't wanted, each by a step that deletes it. The tests are by place; a clause
     /// without one is wanted. Which clauses stay is in no clause.
-    pub fn forget(&mut self, wanted: &[bool]) -> Result<(), Memory>
+    pub(crate) fn forget(&mut self, wanted: &[bool]) -> Result<(), Memory>
         requires { IsLedger self.old }
         ensures told { OnOk result (StaysTold self.old self.new) }
         ensures few { OnOk result (many self.new.dropped < 2 ^ 63) }

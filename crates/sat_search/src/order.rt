@@ -119,14 +119,14 @@ impl Order {
     }
 
     /// The variables of these literals took part in a conflict.
-    pub fn bump(&mut self, lits: &[i64]) {
+    pub(crate) fn bump(&mut self, lits: &[i64]) {
         for lit in lits {
             self.heap.bump(index_of(*lit));
         }
     }
 
     /// A conflict is over.
-    pub fn decay(&mut self) {
+    pub(crate) fn decay(&mut self) {
         self.heap.decay();
     }
 
@@ -138,7 +138,7 @@ impl Order {
     }
 
     /// The literal became true. Where memory is wanting, its phase isn't kept.
-    pub fn set_phase(&mut self, lit: i64) {
+    pub(crate) fn set_phase(&mut self, lit: i64) {
         let _ = self.keep_phase(lit);
     }
 

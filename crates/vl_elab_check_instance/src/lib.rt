@@ -20,4 +20,3 @@ pub use instances::instance_fault;
 pub use overrides::override_step_fault;
 pub use parameters::ParameterTable;
 pub use ports::PortTable;
-pub use varying::{is_net_target, selects_vary};

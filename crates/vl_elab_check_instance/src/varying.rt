@@ -125,7 +125,7 @@ fn name_varies(text: &Text, all: &[Select], fixed: bool, names: &Names) -> bool
 
 /// Whether selects that have to be constant aren't: whether one of their refusals says so.
 #[tactic(auto, using(crate::proofs::Vary::same_selects))]
-pub fn selects_vary(all: &[Select], names: &Names) -> bool
+pub(crate) fn selects_vary(all: &[Select], names: &Names) -> bool
     ensures { result ≡ items.varies_by (select_refusals names.now true (selects all.now)) }
 {
     any_select_varies(all, true, names)
@@ -166,7 +166,7 @@ fn is_net_part(text: &Text, all: &[Select], names: &Names) -> bool
 /// Whether the target of a continuous assignment is a net by itself, a constant part of one, or such joined.
 #[cycle(net)]
 #[tactic(auto, using(vl_tree::specs::LvalFalls::parts_fall))]
-pub fn is_net_target(target: &Lval, names: &Names) -> bool
+pub(crate) fn is_net_target(target: &Lval, names: &Names) -> bool
     ensures { result ≡ items.is_net_target names.now target.now }
 {
     match &target.kind {

@@ -16,6 +16,6 @@ pub use assigned::{assignments_fault, event_fault};
 pub use declared::{given_value, names_fault, port_fault};
 pub use head::{has_value, head_fault};
 pub use parameters::{override_fault, parameter_fault};
-pub use ranges::{known_width, range_fault, width_fault};
+pub use ranges::{range_fault, width_fault};
 pub use reach::{HeadValues, head_values};
 pub use turn::{MOST_TURNS, enter_turn, next_turn};

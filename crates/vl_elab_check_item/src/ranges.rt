@@ -51,7 +51,7 @@ fn span_between(left: Own, right: Own) -> Option<u64>
 
 /// The width in bits of what has this range, without a limit. None exactly where a bound is no constant of 32 signed
 /// bits.
-pub fn known_width(
+pub(crate) fn known_width(
     alloc: Global,
     range: &Option<Range>,
     names: &Names,

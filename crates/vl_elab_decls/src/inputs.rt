@@ -27,7 +27,7 @@ impl Inputs {
     }
 
     /// What the input of this name stands for.
-    pub fn class_of(&self, name: &Text) -> Class
+    pub(crate) fn class_of(&self, name: &Text) -> Class
         ensures { result ≡ spec.class_of self.now name.now }
     {
         match self {

@@ -75,7 +75,7 @@ impl Draft {
     }
 
     /// Adds a driver behind the others. Where no memory is left it is dropped.
-    pub fn drive(&mut self, driver: Driver) -> Result<(), Memory>
+    pub(crate) fn drive(&mut self, driver: Driver) -> Result<(), Memory>
         ensures ok { OnOk result (self.new ≡ spec.with_driver self.old driver) }
         ensures err { OnErr result (self.new ≡ self.old) }
     {

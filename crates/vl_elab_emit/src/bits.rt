@@ -21,7 +21,11 @@ use vl_tree::{Expr, Lval, LvalKind, Select};
 /// None exactly where a name in it isn't declared, an index isn't constant or a select isn't valid, or it has more.
 #[cycle(target)]
 #[tactic(auto, using(vl_tree::specs::LvalFalls::parts_fall))]
-pub fn target_bits(alloc: Global, target: &Lval, scopes: &Scopes) -> Result<Option<u32>, Memory>
+pub(crate) fn target_bits(
+    alloc: Global,
+    target: &Lval,
+    scopes: &Scopes,
+) -> Result<Option<u32>, Memory>
     ensures value { IfOk result (λ o. o ≡ spec.target_bits scopes.now target.now) }
     ensures few { IfOk result (λ o. IfSome o (λ n. n ≤ 128)) }
 {

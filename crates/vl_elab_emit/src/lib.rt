@@ -15,10 +15,8 @@ pub mod start_law;
 mod starting;
 mod values;
 
-pub use bits::target_bits;
 pub use blocks::write_block;
 pub use declaring::write_declarations;
 pub use items::{items_have_their_parts, write_item};
 pub use joining::{is_clock, write_joined};
-pub use starting::start_value;
 pub use values::write_optional_value;

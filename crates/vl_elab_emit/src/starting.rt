@@ -17,7 +17,7 @@ use vl_tree::{Expr, Lval};
 /// The number that a target begins with: that of a constant expression at the larger of both sizes, and at its own
 /// sign (IEEE 1364-2005, sections 5.4 and 6.2.1).
 #[tactic(auto, using(crate::proofs::Started::same_start))]
-pub fn start_value(
+pub(crate) fn start_value(
     alloc: Global,
     target: &Lval,
     value: &Expr,

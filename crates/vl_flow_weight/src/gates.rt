@@ -17,7 +17,7 @@ pub struct Gates {
 }
 
 /// The product; at the limit where it passes it.
-pub fn times(m: u64, n: u64) -> u64
+pub(crate) fn times(m: u64, n: u64) -> u64
     ensures { result ≡ capped (m * n) }
 {
     m.saturating_mul(n)
@@ -25,7 +25,7 @@ pub fn times(m: u64, n: u64) -> u64
 
 impl Gates {
     /// So many, whatever the bits.
-    pub fn fixed(count: u64) -> Gates
+    pub(crate) fn fixed(count: u64) -> Gates
         ensures { (n : ℕ) → gates_at result n ≡ count }
     {
         Gates {
@@ -36,7 +36,7 @@ impl Gates {
     }
 
     /// So many for each bit.
-    pub fn per_bit(count: u64) -> Gates
+    pub(crate) fn per_bit(count: u64) -> Gates
         ensures { (n : ℕ) → gates_at result n ≡ capped (count * n) }
     {
         Gates {

@@ -19,4 +19,3 @@ mod target;
 mod weighed;
 
 pub use design::weight_of;
-pub use gates::times;

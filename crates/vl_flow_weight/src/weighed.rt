@@ -33,7 +33,7 @@ impl Weighed {
     }
 
     /// With as many bits as it has by itself.
-    pub fn own(&self) -> u64
+    pub(crate) fn own(&self) -> u64
         ensures { result ≡ gates_at self.now.gates (sizes.or_none self.now.size) }
     {
         self.gates.at(bits_of(self.size))

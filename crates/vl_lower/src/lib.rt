@@ -29,5 +29,4 @@ mod whole;
 mod words;
 
 pub use phase::Phase;
-pub use stored::is_stored;
 pub use whole::{Lowered, lower};

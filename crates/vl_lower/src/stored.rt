@@ -13,7 +13,7 @@ use vl_lower_cell_laws::Keep;
 use vl_size::Decl;
 
 /// Whether a name is a memory of which each word takes one register: its first cell has the number.
-pub fn is_stored(decl: &Decl, keeps: &[Keep], first: usize) -> bool
+pub(crate) fn is_stored(decl: &Decl, keeps: &[Keep], first: usize) -> bool
     requires kept { IsKept decl.now }
     requires shaped { IsShaped decl.now }
     requires there { first + length (cells decl.now) ≤ length keeps.now }

@@ -78,7 +78,7 @@ pub enum Front {
 impl Reading {
     /// What the list goes on to, up to the end of its innermost region.
     #[tactic(auto, using(crate::proofs::ItemsSpelled::innermost_read))]
-    pub fn ending(&self, outer: Ending) -> Ending
+    pub(crate) fn ending(&self, outer: Ending) -> Ending
         ensures { result ≡ items.innermost self.now.regions outer }
     {
         if self.regions == 0 {
@@ -89,7 +89,7 @@ impl Reading {
     }
 
     #[tactic(auto, using(crate::proofs::ItemsSpelled::items_spelled))]
-    pub fn with_item(self, item: Item) -> Result<Reading, Stop>
+    pub(crate) fn with_item(self, item: Item) -> Result<Reading, Stop>
         requires formed { items.IsReading self }
         requires unmarked { formed.mark_of item ≡ None }
         requires item { formed.IsWellFormed item }
@@ -110,7 +110,7 @@ impl Reading {
 
     /// One region more is open.
     #[tactic(auto, using(crate::proofs::ItemsSpelled::items_spelled))]
-    pub fn with_generate(
+    pub(crate) fn with_generate(
         self,
         attributes: List<AttributeInstance>,
         pos: Pos,
@@ -136,7 +136,7 @@ impl Reading {
         Ok(Reading { all, regions })
     }
 
-    pub fn with_front(self, front: Front) -> Result<Reading, Stop>
+    pub(crate) fn with_front(self, front: Front) -> Result<Reading, Stop>
         requires formed { items.IsReading self }
         requires front { items.IsFront front }
         ensures formed { IfOk result (λ x. items.IsReading x) }
@@ -162,7 +162,7 @@ impl Reading {
 
     /// The region that was opened last ends, at the place.
     #[tactic(auto, using(crate::proofs::ItemsSpelled::items_spelled))]
-    pub fn closed(self, alloc: Global, pos: Pos) -> Result<Reading, Stop>
+    pub(crate) fn closed(self, alloc: Global, pos: Pos) -> Result<Reading, Stop>
         requires formed { items.IsReading self }
         requires within { 0 < self.regions }
         ensures formed { IfOk result (λ x. items.IsReading x) }
