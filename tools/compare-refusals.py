@@ -9,7 +9,7 @@ of the weight. A text is made by the seed and its number, from F on, so a count 
 each refusal was answered, and of each kind of difference one text that shows it, the shortest, without what isn't
 needed for it; all of them are put into FOLDER where one is given. Ends with 1 where one is there.
 
-The program has 2 seconds of processor time and 2 GB beside its stack: a design that is refused takes less, and one
+The program has 5 seconds of processor time and 2 GB beside its stack: a design that is refused takes less, and one
 that isn't may be judged for longer, by up to 100 cycles, so that it counts as accepted and not judged. The reading has
 20 seconds: nested loops are walked turn by turn.
 
@@ -38,7 +38,7 @@ from refusal_shrink import shrink
 from refusal_trees import show, unshared
 
 HEAVY = 20_000_000
-SECONDS, KILOBYTES, SECONDS_OF_READING = 2, 4_100_000, 20
+SECONDS, KILOBYTES, SECONDS_OF_READING = 5, 4_100_000, 20
 UNJUDGED = "accepted, not judged"
 ORDER = ["ill", "reg", "pc_fwd", "unique", "imem", "dmem"]
 sys.setrecursionlimit(20_000)
