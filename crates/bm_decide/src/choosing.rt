@@ -33,7 +33,7 @@ fn choices(alloc: Global, sources: &[Source], numbers: &[u128]) -> Result<Chosen
 }
 
 /// The choices that a witness's values are those of: each source has the number of its bits, and all else is 0.
-pub(crate) fn chosen_of(alloc: Global, witness: &Witness) -> Result<Chosen, Memory>
+pub fn chosen_of(alloc: Global, witness: &Witness) -> Result<Chosen, Memory>
     requires { AreReadable witness.now.bits }
     ensures { IfOk result (λ made. HaveNumbers witness.now.bits.sources (numbers_read witness.now)
         (choices_of made)) }

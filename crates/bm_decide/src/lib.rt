@@ -18,9 +18,11 @@ mod store;
 mod tracing;
 mod verdict;
 
+pub use choosing::chosen_of;
 pub use chosen_law::read_choices_are_the_nets;
 pub use deciding::decide;
 pub use runs::{RunClauses, clauses_of_runs};
 pub use search::{Plain, Search};
+pub use settling::settle;
 pub use tracing::witness_trace;
 pub use verdict::{Certificate, ChoiceBits, Verdict, Witness};

@@ -16,7 +16,7 @@ use std::alloc::Global;
 /// Of whatever runs the clauses are, whichever of them are bad, and whatever is shown of them: no run is bad, and steps
 /// refute the clauses; or here are the choices of a bad run; or the budget is used up. (`settled` of the proofs leads
 /// from this contract there.)
-pub(crate) fn settle<S: Search>(
+pub fn settle<S: Search>(
     alloc: Global,
     search: &S,
     clauses: RunClauses,
