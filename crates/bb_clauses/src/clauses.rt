@@ -61,7 +61,13 @@ pub fn push_clause(alloc: Global, formula: &mut Formula, lits: &[Lit]) -> Result
 
 /// Says by three clauses that a literal is true exactly where both others are; those that say nothing aren't added. The
 /// only error is that no memory is left, and some of the three may then stand.
-pub fn push_and(alloc: Global, formula: &mut Formula, lit: Lit, a: Lit, b: Lit) -> Result<(), Memory>
+pub fn push_and(
+    alloc: Global,
+    formula: &mut Formula,
+    lit: Lit,
+    a: Lit,
+    b: Lit,
+) -> Result<(), Memory>
     requires whole { lit < 2 * formula.old.vars + 2 }
     requires left { a < 2 * formula.old.vars + 2 }
     requires right { b < 2 * formula.old.vars + 2 }

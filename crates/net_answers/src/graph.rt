@@ -2,9 +2,8 @@
 
 ghost use Rattle.bm_unroll.specs.Frames.{IsFrames};
 
-use crate::models;
 use crate::part::{numbers_from, word};
-use crate::show;
+use crate::{models, show};
 use bb_aig::Lit;
 use bb_blast::{Blasted, blast};
 use bm_decide::RunClauses;
@@ -29,7 +28,13 @@ pub(crate) fn answer(
         "gates" => put_gates(out, &blasted, made.encoded.formula.len())?,
         "cuts" => return models::put_counts(alloc, out, &blasted),
         "models" => return models::put_models(alloc, out, &blasted),
-        _ => return run(alloc, out, &blasted, widths, numbers_from(alloc, part, 4)?.as_slice()),
+        _ => return run(
+            alloc,
+            out,
+            &blasted,
+            widths,
+            numbers_from(alloc, part, 4)?.as_slice(),
+        ),
     }
     Ok(true)
 }

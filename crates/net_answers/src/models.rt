@@ -22,11 +22,7 @@ struct Models {
 }
 
 /// Writes how many variables and clauses the graph comes to by cuts. Whether cuts were found.
-pub(crate) fn put_counts(
-    alloc: Global,
-    out: &mut String,
-    blasted: &Blasted,
-) -> Result<bool, Memory>
+pub(crate) fn put_counts(alloc: Global, out: &mut String, blasted: &Blasted) -> Result<bool, Memory>
     requires { InputsAreFirst blasted.now.graph }
 {
     let watch = blasted.watch.as_slice();
@@ -41,11 +37,7 @@ pub(crate) fn put_counts(
 
 /// Writes how many models the clauses by cuts before the last have, and in how many the root and the watched bits are
 /// as the graph has them. Whether cuts were found, and variables are few.
-pub(crate) fn put_models(
-    alloc: Global,
-    out: &mut String,
-    blasted: &Blasted,
-) -> Result<bool, Memory>
+pub(crate) fn put_models(alloc: Global, out: &mut String, blasted: &Blasted) -> Result<bool, Memory>
     requires { InputsAreFirst blasted.now.graph }
 {
     let watch = blasted.watch.as_slice();
@@ -98,7 +90,10 @@ fn is_model(formula: &Formula, values: &[bool]) -> bool {
 
 fn is_clause_true(clause: &[i64], values: &[bool]) -> bool {
     for lit in clause {
-        let value = values.get(lit.unsigned_abs() as usize).copied().unwrap_or(false);
+        let value = values
+            .get(lit.unsigned_abs() as usize)
+            .copied()
+            .unwrap_or(false);
         if value == (*lit > 0) {
             return true;
         }
