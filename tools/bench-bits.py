@@ -20,7 +20,7 @@ SIZES = """//! Prints the gates and clauses of nodes.
 
 use bb_blast::blast;
 use bb_clauses::clauses_of;
-use fv_base::Word;
+use fv_text::Word;
 use std::alloc::Global;
 use std::test::Fail;
 use wn_mem::{read_after, write_all};
@@ -261,7 +261,7 @@ def show_times():
 
 def main():
     if sys.argv[1:] == ["sizes"]:
-        libraries = ["wn_mem", "wn_net", "bb_clauses", "bb_blast", "bb_aig", "fv_base"]
+        libraries = ["wn_mem", "wn_net", "bb_clauses", "bb_blast", "bb_aig", "fv_text"]
         print(made.tried("bit_sizes", SIZES, libraries), end="")
     elif sys.argv[1:] == ["times"]:
         show_times()

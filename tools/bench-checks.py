@@ -21,8 +21,8 @@ import sys
 import made
 
 LIBRARIES = "vl_text vl_elab vl_flow vl_lower vl_prep vl_mean vl_tree rvfi_port rv_table ck_cfg ck_gen " \
-    "ck_design rvf_judge bm_decide bm_unroll bb_cuts bb_clauses bb_blast bb_aig cnf_text cnf_form " \
-    "lrat_check sat_search wn_net fv_base anyhow"
+    "bm_unroll bb_cuts bb_clauses bb_blast bb_aig cnf_text cnf_form " \
+    "lrat_check sat_search wn_net fv_text anyhow"
 
 PROGRAM = r"""//! Reads a letter, the name of a check and `gates` or `cuts`, a configuration up to a line `.`, and a Verilog text, and
 //! goes as far with the check as the letter says, by clauses of these. Says what was made. `n` says the names of the
@@ -32,15 +32,14 @@ PROGRAM = r"""//! Reads a letter, the name of a check and `gates` or `cuts`, a c
 use anyhow::Result;
 use bb_blast::{Blasted, blast};
 use bb_clauses::clauses_of;
-use bb_cuts::{NodeClauses, clauses_of_nodes};
-use bm_decide::ChoiceBits;
+use bb_cuts::clauses_of_nodes;
 use bm_unroll::{Frames, unroll};
 use ck_cfg::{Check, Config, checks, read_cfg};
 use ck_gen::monitor;
+use cnf_form::Formula;
 use cnf_text::dimacs;
-use fv_base::{List, Text};
+use fv_text::{List, Text};
 use lrat_check::{Step, lrat};
-use rvf_judge::{note_text, notes_of};
 use rv_table::Opts;
 use vl_text::{Core, Retirements, SourceText, read_source};
 use rvfi_port::{Channel, Port, Wants, bind};
@@ -51,7 +50,7 @@ use vl_flow::order;
 use vl_lower::{Lowered, lower};
 use vl_prep::Macros;
 use vl_tree::Source;
-use wn_net::{Names, Net, NodeId};
+use wn_net::{Net, NodeId};
 
 const BUDGET: u64 = 1_000_000;
 
@@ -70,17 +69,8 @@ fn nodes_of(c: &Channel) -> [NodeId; 19] {
     ]
 }
 
-fn texts(alloc: Global, names: &Names, check: &Check, frames: Frames, encoded: NodeClauses, steps: &List<Step>)
-    -> Result<String> {
-    let Frames { sources, widths, .. } = frames;
-    let NodeClauses { formula, places, watch } = encoded;
-    let bits = ChoiceBits { sources, widths, places };
-    let notes = notes_of(alloc, names, &bits, watch.as_slice(), 0, check.cycle)?;
-    let mut lines = List::new(alloc);
-    for note in notes.as_slice() {
-        lines.push(note_text(alloc, note)?)?;
-    }
-    let first = dimacs(alloc, &formula, lines.as_slice())?.len();
+fn texts(alloc: Global, formula: &Formula, steps: &List<Step>) -> Result<String> {
+    let first = dimacs(alloc, formula, &[])?.len();
     let second = lrat(alloc, steps.as_slice())?.len();
     Ok(format!(in alloc; "{first} and {second} bytes")?)
 }
@@ -95,13 +85,12 @@ fn added(steps: &List<Step>) -> u64 {
     count
 }
 
-fn searched(alloc: Global, asked: Asked<'_>, names: &Names, check: &Check, frames: Frames, encoded: NodeClauses)
-    -> Result<String> {
-    match solve(alloc, &encoded.formula, BUDGET)? {
+fn searched(alloc: Global, asked: Asked<'_>, formula: &Formula) -> Result<String> {
+    match solve(alloc, formula, BUDGET)? {
         Found::Model(_values) => Ok(String::from_str(alloc, "a model")?),
         Found::Refuted(steps) => {
             if asked.stage == b't' {
-                return texts(alloc, names, check, frames, encoded, &steps);
+                return texts(alloc, formula, &steps);
             }
             let learnt = added(&steps);
             Ok(format!(in alloc; "refuted, {learnt} clauses learnt")?)
@@ -115,10 +104,15 @@ fn blasted(alloc: Global, frames: &Frames) -> Result<Blasted> {
         frames.watch.as_slice())?)
 }
 
-fn of_gates(alloc: Global, frames: &Frames) -> Result<NodeClauses> {
+fn of_gates(alloc: Global, frames: &Frames) -> Result<Formula> {
     let made = blasted(alloc, frames)?;
-    let formula = clauses_of(alloc, &made.graph, made.root)?;
-    Ok(NodeClauses { formula, places: made.places, watch: made.watch })
+    Ok(clauses_of(alloc, &made.graph, made.root)?)
+}
+
+fn of_cuts(alloc: Global, frames: &Frames) -> Result<Formula> {
+    let made = clauses_of_nodes(alloc, frames.widths.as_slice(), frames.nodes.as_slice(), frames.roots.as_slice(),
+        frames.watch.as_slice())?;
+    Ok(made.formula)
 }
 
 fn listed(alloc: Global, config: &Config) -> Result<String> {
@@ -132,8 +126,7 @@ fn listed(alloc: Global, config: &Config) -> Result<String> {
     Ok(names)
 }
 
-fn judged(alloc: Global, asked: Asked<'_>, net: &Net, names: &Names, port: &Port, check: &Check, opts: Opts)
-    -> Result<String> {
+fn judged(alloc: Global, asked: Asked<'_>, net: &Net, port: &Port, check: &Check, opts: Opts) -> Result<String> {
     let mut watched = net.copy()?;
     let bad = monitor(alloc, &mut watched, port, check, opts)?;
     if asked.stage == b'm' {
@@ -151,18 +144,13 @@ fn judged(alloc: Global, asked: Asked<'_>, net: &Net, names: &Names, port: &Port
         let gates = blasted(alloc, &frames)?.graph.len();
         return Ok(format!(in alloc; "{gates} nodes of bits")?);
     }
-    let encoded = if asked.gates {
-        of_gates(alloc, &frames)?
-    } else {
-        clauses_of_nodes(alloc, frames.widths.as_slice(), frames.nodes.as_slice(), frames.roots.as_slice(),
-            frames.watch.as_slice())?
-    };
+    let formula = if asked.gates { of_gates(alloc, &frames)? } else { of_cuts(alloc, &frames)? };
     if asked.stage == b'k' {
-        let variables = encoded.formula.vars();
-        let clauses = encoded.formula.len();
+        let variables = formula.vars();
+        let clauses = formula.len();
         return Ok(format!(in alloc; "{variables} variables, {clauses} clauses")?);
     }
-    searched(alloc, asked, names, check, frames, encoded)
+    searched(alloc, asked, &formula)
 }
 
 fn netted(alloc: Global, asked: Asked<'_>, config: &Config, tree: &Source, macros: &Macros) -> Result<String> {
@@ -195,7 +183,7 @@ fn netted(alloc: Global, asked: Asked<'_>, config: &Config, tree: &Source, macro
     let all = checks(alloc, config)?;
     for check in all.as_slice() {
         if check.name.bytes() == asked.name.as_bytes() {
-            return judged(alloc, asked, &net, &names, &port, check, opts);
+            return judged(alloc, asked, &net, &port, check, opts);
         }
     }
     Ok(String::from_str(alloc, "no check")?)

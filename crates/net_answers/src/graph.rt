@@ -40,7 +40,7 @@ pub(crate) fn answer(
 }
 
 /// The literals of the watched node.
-fn watched(blasted: &Blasted) -> &[Lit] {
+fn literals(blasted: &Blasted) -> &[Lit] {
     match blasted.watch.get(0) {
         Some(lits) => lits.as_slice(),
         None => &[],
@@ -50,7 +50,7 @@ fn watched(blasted: &Blasted) -> &[Lit] {
 fn put_gates(out: &mut String, blasted: &Blasted, clauses: usize) -> Result<(), Memory> {
     let nodes = blasted.graph.len();
     write!(out, "{nodes} nodes, {clauses} clauses:")?;
-    for lit in watched(blasted) {
+    for lit in literals(blasted) {
         write!(out, " {lit}")?;
     }
     Ok(())
@@ -98,7 +98,7 @@ fn run(
 /// The root and the watched node where the nodes of the graph have these values.
 fn put_end(out: &mut String, blasted: &Blasted, values: &[bool]) -> Result<bool, Memory> {
     write!(out, "{} ", is_true(values, blasted.root))?;
-    show::put_number(out, number_of(values, watched(blasted)))?;
+    show::put_number(out, number_of(values, literals(blasted)))?;
     Ok(true)
 }
 
