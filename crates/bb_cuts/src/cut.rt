@@ -8,6 +8,8 @@ pub(crate) const NONE: u32 = u32::MAX;
 #[derive(Debug, Clone, Copy, PartialEq, Eq)]
 pub(crate) struct Cut {
     pub leaves: [u32; 4],
+    /// Bit `n` where a leaf has the number `n` but for a multiple of 32. So there are at least as many leaves as bits.
+    pub marks: u32,
     pub table: Rows,
     /// What the clauses and the leaves cost.
     pub cost: u32,
@@ -18,6 +20,7 @@ impl Cut {
     pub(crate) fn own(node: u32) -> Cut {
         Cut {
             leaves: [node, NONE, NONE, NONE],
+            marks: 1 << (node % 32),
             table: FIRST,
             cost: 0,
         }
@@ -103,23 +106,37 @@ fn depends(table: Rows, leaves: &[u32; 4]) -> bool {
     true
 }
 
-/// The cut of a gate by cuts of what it reads, each of which may be turned. None where there are more than four leaves,
-/// or the table doesn't depend on each.
+/// Whether these are the same leaves.
+pub(crate) fn are_same(left: &[u32; 4], right: &[u32; 4]) -> bool {
+    left[0] == right[0] && left[1] == right[1] && left[2] == right[2] && left[3] == right[3]
+}
+
+/// The leaves of two cuts together. None where there are more than four.
+pub(crate) fn joined_leaves(left: &Cut, right: &Cut) -> Option<[u32; 4]> {
+    if (left.marks | right.marks).count_ones() > 4 {
+        return None;
+    }
+    united(&left.leaves, &right.leaves)
+}
+
+/// The cut of a gate over the leaves of cuts of what it reads, each of which may be turned. None where the table
+/// doesn't depend on each leaf.
 pub(crate) fn joined(
     left: &Cut,
     right: &Cut,
     left_turned: bool,
     right_turned: bool,
+    leaves: &[u32; 4],
 ) -> Option<Cut> {
-    let leaves = united(&left.leaves, &right.leaves)?;
-    let a = spread(left, &leaves);
-    let b = spread(right, &leaves);
+    let a = spread(left, leaves);
+    let b = spread(right, leaves);
     let a = if left_turned { !a } else { a };
     let b = if right_turned { !b } else { b };
     let table = a & b;
-    if depends(table, &leaves) {
+    if depends(table, leaves) {
         Some(Cut {
-            leaves,
+            leaves: *leaves,
+            marks: left.marks | right.marks,
             table,
             cost: 0,
         })

@@ -1,7 +1,7 @@
 //! Which cut a gate is told by: a guess, so no clause of a contract speaks of it.
 ghost use Rattle.std.specs.Prelude.{◌≤◌, length};
 
-use crate::cut::{Cut, NONE, joined};
+use crate::cut::{Cut, NONE, are_same, joined, joined_leaves};
 use crate::leaves::Leaves;
 use crate::primes::Covers;
 use bb_aig::{Aig, AigNode, Lit};
@@ -75,9 +75,9 @@ fn place_of(found: &[Cut], cost: u32) -> usize
 }
 
 /// Whether a cut has these leaves.
-fn has_leaves(found: &[Cut], cut: &Cut) -> bool {
-    for other in found {
-        if other.leaves == cut.leaves {
+fn has_leaves(found: &[Cut], leaves: &[u32; 4]) -> bool {
+    for cut in found {
+        if are_same(&cut.leaves, leaves) {
             return true;
         }
     }
@@ -106,9 +106,6 @@ impl Chooser {
 
     /// Keeps a cut among the best of a gate.
     fn keep(&mut self, covers: &mut Covers, mut cut: Cut) -> Result<(), Memory> {
-        if has_leaves(self.found.as_slice(), &cut) {
-            return Ok(());
-        }
         cut.cost = self.cost(covers, &cut)?;
         let place = place_of(self.found.as_slice(), cut.cost);
         if place < MOST_CUTS {
@@ -118,23 +115,35 @@ impl Chooser {
         Ok(())
     }
 
+    /// Finds the best cuts of a gate that have this cut of what it reads first.
+    fn find_over(&mut self, covers: &mut Covers, left: &Cut, a: Lit, b: Lit) -> Result<(), Memory> {
+        let (start, end) = self.span(b / 2);
+        for place in start..end {
+            let Some(right) = self.cuts.get(place).copied() else {
+                return Ok(());
+            };
+            let Some(leaves) = joined_leaves(left, &right) else {
+                continue;
+            };
+            if has_leaves(self.found.as_slice(), &leaves) {
+                continue;
+            }
+            if let Some(cut) = joined(left, &right, a % 2 == 1, b % 2 == 1, &leaves) {
+                self.keep(covers, cut)?;
+            }
+        }
+        Ok(())
+    }
+
     /// Finds the best cuts of a gate.
     fn find(&mut self, covers: &mut Covers, a: Lit, b: Lit) -> Result<(), Memory> {
         self.found.clear();
-        let (left_start, left_end) = self.span(a / 2);
-        let (right_start, right_end) = self.span(b / 2);
-        for left_place in left_start..left_end {
-            for right_place in right_start..right_end {
-                let Some(left) = self.cuts.get(left_place).copied() else {
-                    return Ok(());
-                };
-                let Some(right) = self.cuts.get(right_place).copied() else {
-                    return Ok(());
-                };
-                if let Some(cut) = joined(&left, &right, a % 2 == 1, b % 2 == 1) {
-                    self.keep(covers, cut)?;
-                }
-            }
+        let (start, end) = self.span(a / 2);
+        for place in start..end {
+            let Some(left) = self.cuts.get(place).copied() else {
+                return Ok(());
+            };
+            self.find_over(covers, &left, a, b)?;
         }
         Ok(())
     }
