@@ -1,0 +1,5 @@
+pub mod OneCycle
+pub mod Halves
+pub mod Verdicts
+pub mod Laws
+pub mod Traces
