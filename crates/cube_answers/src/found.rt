@@ -1,4 +1,7 @@
 //! Searches that are split into cubes.
+ghost use Rattle.std.specs.Prelude.{IfOk, IfSome};
+ghost use Rattle.lrat_check.specs.Steps.{AreSteps};
+ghost use Rattle.sat_search.specs.Found.{IfSteps};
 
 use crate::numbers::numbers;
 use certificate_answers::parted;
@@ -34,10 +37,18 @@ pub(crate) fn put_found<R: Threads + Sync>(
             texts.push(text_of(alloc, &found)?)?;
         }
     }
-    if texts.iter().all(|text| Some(text) == texts.first()) {
+    if are_same(texts.as_slice()) {
         out.push_str("same")?;
     }
     Ok(())
+}
+
+/// Whether each text is the first one.
+fn are_same(texts: &[Vec<u8>]) -> bool {
+    match texts.first() {
+        Some(first) => texts.iter().all(|text| text == first),
+        None => true,
+    }
 }
 
 /// Whether the search over `BUDGET CUBES JOBS|CLAUSE|CLAUSES` refutes, and adds the clause.
@@ -51,19 +62,22 @@ pub(crate) fn put_added<R: Threads + Sync>(
     let (clause, cnf) = parted(rest);
     let clause = numbers(alloc, clause)?;
     let asked = numbers(alloc, asked)?;
-    let ([budget, cubes, jobs], Ok(formula)) = (asked.as_slice(), read_dimacs(alloc, cnf)) else {
-        return Ok(out.push_str("no case")?)
+    let [budget, cubes, jobs] = asked.as_slice() else {
+        return Ok(out.push_str("no numbers")?)
+    };
+    let Ok(formula) = read_dimacs(alloc, cnf) else {
+        return Ok(out.push_str("no clauses")?)
     };
     match solved(rt, alloc, &formula, *budget, *cubes, *jobs)? {
-        Some(Found::Refuted(steps)) => {
-            let is_added = steps
-                .as_slice()
-                .iter()
-                .any(|step| is_added(step, clause.as_slice()));
-            Ok(out.push_str(if is_added { "added" } else { "not added" })?)
-        }
+        Some(Found::Refuted(steps)) => put_whether_added(out, &steps, clause.as_slice()),
         _ => Ok(out.push_str("not refuted")?),
     }
+}
+
+fn put_whether_added(out: &mut String, steps: &List<Step>, clause: &[i64]) -> Result<(), Memory> {
+    let is_added = steps.as_slice().iter().any(|step| is_added(step, clause));
+    out.push_str(if is_added { "added" } else { "not added" })?;
+    Ok(())
 }
 
 /// Whether the step adds a clause with the same literals.
@@ -86,7 +100,9 @@ fn solved<R: Threads + Sync>(
     budget: i64,
     cubes: i64,
     jobs: i64,
-) -> Result<Option<Found>, Memory> {
+) -> Result<Option<Found>, Memory>
+    ensures { IfOk result (λ found. IfSome found (λ answer. IfSteps answer AreSteps)) }
+{
     if budget <= 0 || cubes < 0 || cubes > 6 || jobs < 1 || jobs > 64 {
         return Ok(None);
     }
@@ -96,12 +112,9 @@ fn solved<R: Threads + Sync>(
 
 /// `model` with the values, `refuted`, or `spent` with the number of steps; `wrong` before it where the values or the
 /// steps don't hold.
-fn put_end(
-    alloc: Global,
-    out: &mut String,
-    formula: &Formula,
-    found: &Found,
-) -> Result<(), Memory> {
+fn put_end(alloc: Global, out: &mut String, formula: &Formula, found: &Found) -> Result<(), Memory>
+    requires { IfSteps found.now AreSteps }
+{
     match found {
         Found::Model(values) => {
             put_mark(out, all_true(values, formula))?;
