@@ -9,7 +9,7 @@ with a hyphen; without CFG the checks are the 44 of the core `tiny` as it is. Bo
 worker, in turn, N times each, five where nothing is said, and the fastest run of each counts. A line for each check has
 the numbers of its files by both; behind them stand the sums, the seconds, and each answer that one program alone gives.
 With --abc each check's graph, as `toaig` of AFTER writes it, is also given to abc (Debian's `berkeley-abc`), which
-writes clauses by cuts of four leaves.
+writes clauses by cuts of four leaves. This graph lacks what only the noted fields need, so it is smaller.
 """
 import argparse
 import os
