@@ -275,6 +275,8 @@ def is_goal(expr, scope, found):
     entry = scope.find(expr.word)
     if entry is None:
         return True
+    if not is_constant(entry) and scope.reader.form(entry) is None:
+        return True  # its declaration is refused, and no use of it before
     if entry.kind not in ("net", "in"):
         return False
     constant = all(is_constant_expr(each, scope) for select in expr.selects for each in select.children())
