@@ -13,7 +13,7 @@ PROGRAM = """//! Reads a configuration from standard input, and says how many ch
 #![tactic(auto)]
 
 use ck_cfg::{checks, file_names, read_cfg};
-use fv_base::Text;
+use fv_text::Text;
 use std::io::{self, Read};
 
 fn main(rt: HostRuntime) -> io::Result<()> {
@@ -45,7 +45,7 @@ LINES = [
 
 
 def main():
-    with made.program("cfg_again", PROGRAM, ["fv_base", "ck_cfg"]) as program:
+    with made.program("cfg_again", PROGRAM, ["fv_text", "ck_cfg"]) as program:
         for what, head, line in LINES:
             for count in [50000, 100000, 200000]:
                 body = "".join(line.format(index) for index in range(count))

@@ -14,7 +14,7 @@ import made
 PROGRAM = """//! Builds a net of as many nodes as standard input says, and evaluates it, or a copy, once.
 #![tactic(auto)]
 
-use fv_base::{List, Memory};
+use fv_text::{List, Memory};
 use std::alloc::Global;
 use std::io::Read;
 use std::process::Abort;
@@ -87,7 +87,7 @@ def last(nodes):
 
 
 def main():
-    with made.program("many_nodes", PROGRAM.replace("COUNT\n", made.COUNT), ["wn_net", "fv_base"]) as program:
+    with made.program("many_nodes", PROGRAM.replace("COUNT\n", made.COUNT), ["wn_net", "fv_text"]) as program:
         for nodes in [2500000, 5000000, 10000000]:
             for work in ["built", "evaluated", "copied"]:
                 start = time.time()

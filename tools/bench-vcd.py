@@ -53,7 +53,7 @@ def dump(names, cycles):
 
 
 def main():
-    with made.program("vcd_again", PROGRAM, ["fv_base", "vcd_text"]) as program:
+    with made.program("vcd_again", PROGRAM, ["fv_text", "vcd_text"]) as program:
         for names, cycles in [(5000, 100), (5000, 200), (10000, 100)]:
             text = dump(names, cycles).encode()
             start = time.time()

@@ -20,7 +20,7 @@ import time
 
 HERE = os.path.dirname(os.path.abspath(__file__))
 TOP = os.path.join(HERE, "..")
-CRATES = ["fv_base", "fv_lines", "cnf_form", "cnf_text", "lrat_check", "sat_trail", "sat_search",
+CRATES = ["fv_text", "fv_lines", "cnf_form", "cnf_text", "lrat_check", "sat_trail", "sat_search",
           "sat_propagate", "sat_learn", "sat_quick"]
 BUDGET = 200000
 

@@ -18,7 +18,7 @@ PROGRAM = """//! Compares the bits of nodes with the values of the nodes.
 
 use bb_aig::{Aig, Lit};
 use bb_blast::{Blasted, blast};
-use fv_base::{List, Word};
+use fv_text::{List, Word};
 use std::alloc::Global;
 use std::test::Fail;
 use wn_net::{InputKind, Net, NodeId, State};
@@ -240,7 +240,7 @@ def main():
     text = PROGRAM.replace("ROUNDS", rounds).replace("SEED", str(random.getrandbits(32)))
     # few steps for the slow reading of the program, which comes first
     flags = ["--steps", "1000", "--seconds", "900"]
-    said = made.tried("compare_bits", text, ["bb_blast", "bb_aig", "wn_net", "fv_base"], flags)
+    said = made.tried("compare_bits", text, ["bb_blast", "bb_aig", "wn_net", "fv_text"], flags)
     others = [line for line in said.splitlines() if line.startswith("other ")]
     for line in others[:5]:
         print(line)

@@ -404,7 +404,7 @@ def statements(folder, count, seed):
         listed = file.read()
     if "statement_laws:" not in listed:
         with open(os.path.join(folder, "crates.txt"), "a") as file:
-            file.write("statement_laws: vl_mean vl_size vl_tree fv_base\n")
+            file.write("statement_laws: vl_mean vl_size vl_tree fv_text\n")
     print(f"{len(laws)} laws; {skipped} more blocks have unknown bits or no answer", flush=True)
     subprocess.run(["rt", "check"], cwd=crate, check=False)
 

@@ -14,7 +14,7 @@ use bb_blast::blast;
 use bm_unroll::unroll;
 use ck_cfg::{Check, CheckKind};
 use ck_gen::monitor;
-use fv_base::{List, Text};
+use fv_text::{List, Text};
 use rv_table::{Opts, RowId};
 use rvfi_port::{Channel, Port};
 use std::alloc::Global;
@@ -83,7 +83,7 @@ fn count(rt: &HostRuntime, kind: CheckKind, channels: u32, cycle: u32) -> Result
 """
 
 LIBRARIES = [
-    "bb_blast", "bb_aig", "bm_unroll", "ck_gen", "ck_cfg", "rvfi_port", "rv_table", "wn_net", "fv_base",
+    "bb_blast", "bb_aig", "bm_unroll", "ck_gen", "ck_cfg", "rvfi_port", "rv_table", "wn_net", "fv_text",
 ]
 
 if __name__ == "__main__":

@@ -12,7 +12,7 @@ import made
 PROGRAM = """//! Prints the nodes that a read and a write of a memory add.
 #![tactic(auto)]
 
-use fv_base::Word;
+use fv_text::Word;
 use std::alloc::Global;
 use std::test::Fail;
 use wn_mem::{read_after, write_all};
@@ -104,7 +104,7 @@ def main():
     for words, enough in [(1, 1), (2, 1), (32, 5), (4096, 12)]:
         for bits in [enough, 32, 0]:
             text = PROGRAM.replace("WORDS", str(words)).replace("BITS", str(bits))
-            show(made.tried("count_nodes", text, ["wn_mem", "wn_net", "fv_base"]).splitlines())
+            show(made.tried("count_nodes", text, ["wn_mem", "wn_net", "fv_text"]).splitlines())
 
 
 def show(lines):

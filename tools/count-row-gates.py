@@ -58,7 +58,7 @@ fn count(rt: &HostRuntime, row: RowId, altops: bool) -> Result<(), Fail> {
 }
 """
 
-LIBRARIES = ["bb_blast", "bb_aig", "rv_circ", "rvfi_port", "rv_table", "wn_net", "fv_base"]
+LIBRARIES = ["bb_blast", "bb_aig", "rv_circ", "rvfi_port", "rv_table", "wn_net", "fv_text"]
 
 if __name__ == "__main__":
     for line in made.tried("row_gates", PROGRAM + made.CHANNEL, LIBRARIES, ["--seconds", "600"]).splitlines():

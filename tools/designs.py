@@ -9,13 +9,13 @@ import made
 import program_cases
 
 LIBRARIES = "vl_lower tr_replay vl_lower_spec vl_elab vl_elab_spec vl_flow vl_flow_spec vl_mean vl_size " \
-    "vl_parse vl_token vl_tree wn_run wn_net fv_base anyhow"
+    "vl_parse vl_token vl_tree wn_run wn_net fv_text anyhow"
 
 DRIVER = r"""//! Reads a number and a Verilog text a line, and prints the names of its design and a run.
 #![tactic(auto)]
 
 use anyhow::Result;
-use fv_base::{List, Memory, Text, Trace};
+use fv_text::{List, Memory, Text, Trace};
 use std::alloc::Global;
 use tr_replay::{Chosen, replay};
 use vl_elab::elaborate;
