@@ -85,10 +85,18 @@ fn spread(cut: &Cut, leaves: &[u32; 4]) -> Rows {
     for turn in 0..4usize {
         let from = 3 - turn;
         let leaf = cut.leaves[from];
-        for (to, other) in leaves.iter().enumerate() {
-            if leaf != NONE && *other == leaf && from < to {
-                table = swapped(table, from, to);
-            }
+        if leaf != NONE && leaf != leaves[from] {
+            table = moved(table, from, leaf, leaves);
+        }
+    }
+    table
+}
+
+/// The table with a leaf where it stands among these, behind its place.
+fn moved(table: Rows, from: usize, leaf: u32, leaves: &[u32; 4]) -> Rows {
+    for (to, other) in leaves.iter().enumerate() {
+        if *other == leaf && from < to {
+            return swapped(table, from, to);
         }
     }
     table
