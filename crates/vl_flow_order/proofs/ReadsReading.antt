@@ -65,8 +65,8 @@ module _ (i : ℕ) (needs : List Step) (xs : List Footprint) where
   abbrev InRow : List ℕ → Visit → ℕ → ℕ → Type 0
   InRow row v a b = (a ≡ i) × ((m : ℕ) × (slice_get row m ≡ Some b)) × Drives needs xs v b
 
-  pub row_none : (g : List (List ℕ)) (row : List ℕ) (v : Visit) → AddsRow i needs xs row 0 v g g
-  row_none g row v = record {
+  pub no_entry : (g : List (List ℕ)) (row : List ℕ) (v : Visit) → AddsRow i needs xs row 0 v g g
+  no_entry g row v = record {
     grows = grows_none (InRow row v) g;
     all = λ m j y cell bit less at is from before needed driven. absurd (omega (arith, less));
   }
