@@ -1,3 +1,5 @@
+pub mod Cuts
+pub mod Steps
 pub mod Lists
 pub mod OneCycle
 pub mod Joining

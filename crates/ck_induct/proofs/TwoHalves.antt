@@ -13,9 +13,9 @@ use Rattle.wn_run.specs.Runs as net_runs
 use Rattle.wn_run.proofs.Given.{choices_run, cycles_given}
 use Rattle.vl_lower_spec.specs.Evaluations.{run_of}
 use Rattle.vl_lower_spec.proofs.Allowed.{allowed}
-use Rattle.vl_mean_steps.specs.Steps as steps
-use Rattle.vl_mean_steps.specs.Steps.{FailsAt}
-use Rattle.vl_mean_steps.proofs.Steps.{none_fails}
+use Rattle.ck_induct.specs.Steps as steps
+use Rattle.ck_induct.specs.Steps.{FailsAt}
+use Rattle.ck_induct.proofs.Steps.{none_fails}
 use Rattle.bm_unroll.specs.Frames.{IsChoice}
 use Rattle.bm_induct.specs.Halves.{IsStepChoice}
 use Rattle.bm_induct.specs.StepRuns.{IsBaseRun, IsStepRun, run_cycle, step_cycle}

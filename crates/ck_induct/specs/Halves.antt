@@ -5,7 +5,7 @@ use Rattle.fv_text.specs.declared.trace.Trace.{Trace}
 use Rattle.vl_size.specs.Size.{Values}
 use Rattle.vl_mean.specs.Parts.{Part}
 use Rattle.vl_mean.specs.Runs.{Each, HasReset, Holds, IsAssumed, KeepsOnce, Neighbours, Next}
-use Rattle.vl_mean_steps.specs.Steps.{FailsAt, IsStepRun}
+use Rattle.ck_induct.specs.Steps.{FailsAt, IsStepRun}
 use Rattle.cnf_form.specs.Cnf.{Cnf, formula_true}
 use Rattle.ck_design.specs.declared.note.Note.{Note}
 use Rattle.ck_design.specs.Retirements.{values_at}

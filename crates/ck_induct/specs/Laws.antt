@@ -7,8 +7,8 @@ use Rattle.rv_table.specs.declared.retire.Opts.{Opts}
 use Rattle.vl_size.specs.Size.{Values}
 use Rattle.vl_mean.specs.Parts.{Part}
 use Rattle.vl_mean.specs.Runs.{Agrees, IsAssumed, IsRun}
-use Rattle.vl_mean_steps.specs.Steps as steps
-use Rattle.vl_mean_steps.specs.Steps.{FailsAt}
+use Rattle.ck_induct.specs.Steps as steps
+use Rattle.ck_induct.specs.Steps.{FailsAt}
 use Rattle.wn_net.specs.declared.names.Names.{Names}
 use Rattle.wn_net.specs.Value.{Given}
 use Rattle.wn_net.specs.Net.{Netlist, IsNet, IsNodeOf, value_at}

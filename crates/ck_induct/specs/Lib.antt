@@ -1,3 +1,4 @@
+pub mod Steps
 pub mod OneCycle
 pub mod Halves
 pub mod Verdicts

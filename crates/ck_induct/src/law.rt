@@ -3,6 +3,13 @@
 
 ghost use Rattle.ck_induct.specs.Laws as laws;
 ghost use Rattle.ck_induct.specs.OneCycle.{PropertiesAreOfMaps};
+ghost use Rattle.ck_induct.specs.Steps as steps;
+
+/// Where no run up to `k` fails a property of one map in a cycle from 1 on, and no step run of length `k` exists, no
+/// run of any length fails it in a cycle from 1 on.
+pub fn no_run_of_any_length_fails()
+    ensures { steps.NoneFails }
+{}
 
 /// Where a check looks at one cycle, a run has its property exactly where the map of the check's cycle has it.
 pub fn properties_are_of_maps()

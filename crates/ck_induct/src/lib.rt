@@ -16,8 +16,8 @@ mod tracing;
 pub use halves::{decide_base, decide_step};
 pub use kind::{in_cycle, is_of_one_cycle};
 pub use law::{
-    halves_have_their_clauses, monitors_tell_lack, none_of_the_design_fails,
-    properties_are_of_maps, refuted_halves_have_none, step_runs_are_allowed,
-    step_runs_are_evaluated, traces_are_the_designs, traces_have_dumps,
+    halves_have_their_clauses, monitors_tell_lack, no_run_of_any_length_fails,
+    none_of_the_design_fails, properties_are_of_maps, refuted_halves_have_none,
+    step_runs_are_allowed, step_runs_are_evaluated, traces_are_the_designs, traces_have_dumps,
 };
 pub use tracing::{failing_trace, stepping_trace};

@@ -7,8 +7,8 @@ use Rattle.vl_mean.specs.Runs.{Each, HasReset, Holds, Init, IsAssumed, IsRun, Ke
 use Rattle.vl_mean.specs.Scopes.{no_values}
 use Rattle.bm_induct.specs.Lengths.{HoldsBehind, HoldsFirst}
 use Rattle.bm_induct.proofs.ByLength.{each_length}
-use Rattle.vl_mean_steps.specs.Steps.{FailsAt, IsStepRun, NoneFails, map_at}
-use Rattle.vl_mean_steps.proofs.Cuts as cut
+use Rattle.ck_induct.specs.Steps.{FailsAt, IsStepRun, NoneFails, map_at}
+use Rattle.ck_induct.proofs.Cuts as cut
 
 -- what isn't false
 not_false : (b : Bool) → (b ≡ false → ⊥) → b ≡ true
