@@ -103,6 +103,21 @@ module product #(parameter W = 2) (input clock, input [W-1:0] x, input [W-1:0] y
   assign now = x * y, before = kept;
 endmodule
 """, [("go", 1)], [("a", 4), ("b", 4)], [("seen", 1)], [("unit.kept", 0)]),
+    Design("products of over a thousand gates, whose clauses are those of cuts; the budget is used up", "ill 1", ill, 1,
+           ["--budget", "1"], """
+module rvfi_wrapper (input clock, input reset, `RVFI_OUTPUTS);
+  `rvformal_const_rand_reg [8:0] a;
+  `rvformal_rand_reg step;
+  reg [15:0] kept = 1;
+  wire [23:0] square = {15'd0, a} * {15'd0, a};
+  wire [23:0] cube = square * {15'd0, a} + kept;
+  wire met = step || a[0] || kept[3];
+  always @* assume (met);
+  always @(posedge clock) kept <= cube[15:0] ^ {square[17:10], 7'd0, step};
+  assign rvfi_valid = cube[11:4] == 8'h5c && square[5:4] == 2, rvfi_order = {cube, square}, rvfi_insn = 0;
+  assign rvfi_trap = kept[1:0] == 2, rvfi_rs1_addr = square[12:8], rvfi_rs1_rdata = cube, rvfi_rd_addr = 0;
+  assign rvfi_rd_wdata = 0, rvfi_mem_wmask = 0;
+""" + QUIET, [("step", 1)], [("a", 9)], [], [("kept", 1)]),
 ]
 
 
