@@ -83,7 +83,7 @@ class Module:
                 continue
             if not text.startswith(MARKED) and not re.match(r"^\S+ :\s", text):
                 continue
-            if text.startswith(("record {", "record (")):
+            if re.match(r"record (\S+ )?[{(]", text):
                 continue  # a value, not the type of one
             kind, name, _ = HEAD.match(text).groups()
             if kind:

@@ -2,6 +2,7 @@
 use Rattle.std.proofs.Common.{◌≡◌, ℕ, zero, suc, ◌+◌, ◌<◌, ◌≤◌, Bool, true, false, not, cond, ◌&&◌, List, [], ◌∷◌}
 use Rattle.std.proofs.Common.{◌++◌, Option, Some, None, refl, ap, sym, subst, ◌∙◌, arith}
 use Rattle.std.specs.Prelude.{map, find, bytes_eq, option_map, option_to_list}
+use Rattle.std.specs.Option.{option_or}
 use Rattle.std.specs.List.{AllByRecursion, filter, flat_map, range_with_len}
 use Rattle.std.proofs.lemmas.Bool.{false≢true}
 use Rattle.std.proofs.lemmas.Slice.Eq.{bytes_eq-Decides}
@@ -14,7 +15,7 @@ use Rattle.ck_cfg.specs.declared.config.Config.{Config}
 use Rattle.ck_cfg.specs.declared.check.Check.{Check}
 use Rattle.ck_cfg.specs.Kind.{kind_name, kinds, is_kind}
 use Rattle.ck_cfg.specs.Depths.{is_channel, is_for}
-use Rattle.ck_cfg.specs.Checks.{or_else, depth_for, check_at, channel_check, channel_checks, isa_rows, kind_rows}
+use Rattle.ck_cfg.specs.Checks.{depth_for, check_at, channel_check, channel_checks, isa_rows, kind_rows}
 use Rattle.ck_cfg.specs.Checks.{kind_checks, listed_checks, is_named, moved}
 use Rattle.ck_cfg.specs.Lawful.{RowFits, least_cycle, IsCheck, HasLawfulChecks}
 use Rattle.ck_cfg.proofs.Places.{find_passes}
@@ -101,7 +102,7 @@ depth_found : (depths : List Depth) (kind : CheckKind) (channel : ℕ) (d : Dept
 depth_found depths kind channel d a e =
     step (find (is_for kind (Some channel)) depths) (λ f g. found_by depths kind (Some channel) f a g) e where
       step : (o : Option Depth) → ((f : Depth) → o ≡ Some f → IsFound kind f)
-          → or_else o (find (is_for kind None) depths) ≡ Some d → IsFound kind d
+          → option_or o (find (is_for kind None) depths) ≡ Some d → IsFound kind d
       step None h g = found_by depths kind None d a g
       step (Some f) h g = h d g
 

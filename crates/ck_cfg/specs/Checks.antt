@@ -15,27 +15,22 @@ use Rattle.std.specs.Prelude.{
 }
 use Rattle.std.specs.Prelude.{option_to_list, map, find, codes, decimal}
 use Rattle.std.specs.List.{filter, flat_map, range_with_len}
+use Rattle.std.specs.Option.{option_or}
 use Rattle.std.specs.Str.{bytes_eq}
 use Rattle.rv_table.specs.declared.retire.Isa.{Isa}
 use Rattle.rv_table.specs.declared.row.RowId.{RowId}
 use Rattle.rv_table.specs.Matching as matching
 use Rattle.ck_cfg.specs.declared.kind.CheckKind.{CheckKind}
-use Rattle.ck_cfg.specs.declared.kind.CheckKind.TheVariants.{Insn, Ill, Reg, PcFwd, PcBwd, Causal, Unique, Liveness}
-use Rattle.ck_cfg.specs.declared.kind.CheckKind.TheVariants.{Imem, Dmem}
+use Rattle.ck_cfg.specs.declared.kind.CheckKind.TheVariants.{Insn}
 use Rattle.ck_cfg.specs.declared.config.Depth.{Depth}
 use Rattle.ck_cfg.specs.declared.config.Config.{Config}
 use Rattle.ck_cfg.specs.declared.check.Check.{Check}
 use Rattle.ck_cfg.specs.Kind.{kind_name, kinds}
 use Rattle.ck_cfg.specs.Depths.{is_for}
 
--- the first of two, where it is there, or else the other
-abbrev pub or_else : Option Depth → Option Depth → Option Depth
-or_else (Some d) other = Some d
-or_else None other = other
-
 -- the depth of a kind at a channel: the channel's own line comes before the line without a channel
 abbrev pub depth_for : List Depth → CheckKind → ℕ → Option Depth
-depth_for depths kind channel = or_else (find (is_for kind (Some channel)) depths) (find (is_for kind None) depths)
+depth_for depths kind channel = option_or (find (is_for kind (Some channel)) depths) (find (is_for kind None) depths)
 
 -- `_ROW` where there is a row
 abbrev pub row_part : Option RowId → List ℕ
@@ -78,15 +73,7 @@ isa_rows isa = filter (matching.has isa) matching.rows
 -- what the checks of a kind are about: the rows for insn, and no row for the others
 abbrev pub kind_rows : Isa → CheckKind → List (Option RowId)
 kind_rows isa Insn = map (λ row. Some row) (isa_rows isa)
-kind_rows isa Ill = None ∷ []
-kind_rows isa Reg = None ∷ []
-kind_rows isa PcFwd = None ∷ []
-kind_rows isa PcBwd = None ∷ []
-kind_rows isa Causal = None ∷ []
-kind_rows isa Unique = None ∷ []
-kind_rows isa Liveness = None ∷ []
-kind_rows isa Imem = None ∷ []
-kind_rows isa Dmem = None ∷ []
+kind_rows isa kind = None ∷ []
 
 -- the checks of a kind
 abbrev pub kind_checks : Config → CheckKind → List Check
@@ -104,8 +91,7 @@ is_named name c = bytes_eq c.name name
 -- moves nothing
 abbrev pub moved : List (List ℕ) → List Check → List Check
 moved [] checks = checks
-moved (name ∷ names) checks =
-    filter (is_named name) checks ++ moved names (filter (λ c. not (is_named name c)) checks)
+moved (name ∷ names) checks = filter (is_named name) checks ++ moved names (filter (λ c. not (is_named name c)) checks)
 
 -- the checks of a configuration
 abbrev pub checks_of : Config → List Check

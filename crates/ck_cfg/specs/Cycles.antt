@@ -18,8 +18,7 @@ use Rattle.std.specs.Prelude.{None, option_map, option_and_then}
 use Rattle.std.specs.List.{list_all}
 use Rattle.fv_lines.specs.Numbers.{is_digit, natural_of}
 use Rattle.ck_cfg.specs.declared.kind.CheckKind.{CheckKind}
-use Rattle.ck_cfg.specs.declared.kind.CheckKind.TheVariants.{Insn, Ill, Reg, PcFwd, PcBwd, Causal, Unique, Liveness}
-use Rattle.ck_cfg.specs.declared.kind.CheckKind.TheVariants.{Imem, Dmem}
+use Rattle.ck_cfg.specs.declared.kind.CheckKind.TheVariants.{Insn, Ill, Unique, Liveness, Imem}
 use Rattle.ck_cfg.specs.Digits.{value}
 use Rattle.ck_cfg.specs.declared.cycles.Cycles.{Cycles}
 
@@ -57,14 +56,10 @@ lone_or_pair ns = None
 abbrev pub cycles_said : CheckKind → List ℕ → Option Cycles
 cycles_said Insn ns = lone ns
 cycles_said Ill ns = lone ns
-cycles_said Reg ns = pair ns
-cycles_said PcFwd ns = pair ns
-cycles_said PcBwd ns = pair ns
-cycles_said Causal ns = pair ns
 cycles_said Unique ns = triple ns
 cycles_said Liveness ns = triple ns
 cycles_said Imem ns = lone_or_pair ns
-cycles_said Dmem ns = pair ns
+cycles_said kind ns = pair ns
 
 -- what a rule says of the numbers that the words write
 abbrev pub said_by : (List ℕ → Option Cycles) → List (List ℕ) → Option Cycles

@@ -29,20 +29,16 @@ use Rattle.ck_cfg.specs.Cycles.{cycles_of}
 use Rattle.ck_cfg.specs.Target.{target_of}
 
 -- a line that begins with this word is skipped: this profile leaves out what it asks for
-abbrev pub skipped_words : List (List ℕ)
-skipped_words = codes "hang" ∷ codes "cover" ∷ codes "fault" ∷ codes "causal_mem" ∷ codes "causal_io" ∷ []
-
--- one of these words, or one that begins with `csr` or `bus_`
 abbrev pub is_skipped : List ℕ → Bool
 is_skipped word =
-    is_among skipped_words word || (starts_with nat_eq word (codes "csr") || starts_with nat_eq word (codes "bus_"))
+    is_among (codes "hang" ∷ codes "cover" ∷ codes "fault" ∷ codes "causal_mem" ∷ codes "causal_io" ∷ []) word
+    || (starts_with nat_eq word (codes "csr") || starts_with nat_eq word (codes "bus_"))
 
 -- the same channel, or none in both
 abbrev pub is_channel : Option ℕ → Option ℕ → Bool
 is_channel None None = true
-is_channel None (Some c) = false
-is_channel (Some b) None = false
 is_channel (Some b) (Some c) = b == c
+is_channel b c = false
 
 -- the depth is of this kind, and of this channel or of no channel alone
 abbrev pub is_for : CheckKind → Option ℕ → Depth → Bool
@@ -71,8 +67,7 @@ with_depth_of r d = record r { config = record r.config { depths = r.config.dept
 
 -- a depth that stands there for the second time, or is above 100, is refused
 abbrev pub with_new_depth : Reader → ℕ → List ℕ → Depth → Result Reader CfgFault
-with_new_depth r line word d =
-    if list_any (is_for d.kind d.channel) r.config.depths then Err (fault.Twice line word)
+with_new_depth r line word d = if list_any (is_for d.kind d.channel) r.config.depths then Err (fault.Twice line word)
     else if nat_lt 100 d.cycle then Err (fault.TooDeep line) else Ok (with_depth_of r d)
 
 -- what a line says, or that it says nothing right
@@ -83,6 +78,5 @@ with_depth_read r line word (Some d) = with_new_depth r line word d
 -- a line of the section: its words
 abbrev pub with_depth : Reader → ℕ → List (List ℕ) → Result Reader CfgFault
 with_depth r line [] = Err (fault.Depth line)
-with_depth r line (word ∷ numbers) =
-    if is_skipped word then Ok (with_skip r word)
+with_depth r line (word ∷ numbers) = if is_skipped word then Ok (with_skip r word)
     else with_depth_read r line word (depth_of r.config.nret word numbers)

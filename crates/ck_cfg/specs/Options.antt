@@ -32,8 +32,7 @@ isa m c = record { m = m; c = c }
 
 -- the instruction set of a name
 abbrev pub isa_named : List ℕ → Option Isa
-isa_named name =
-    if bytes_eq name (codes "rv32i") then Some (isa false false)
+isa_named name = if bytes_eq name (codes "rv32i") then Some (isa false false)
     else if bytes_eq name (codes "rv32im") then Some (isa true false)
     else if bytes_eq name (codes "rv32ic") then Some (isa false true)
     else if bytes_eq name (codes "rv32imc") then Some (isa true true) else None
@@ -82,7 +81,6 @@ with_nret r line key values = Err (fault.Option line key)
 -- a line of the section: its words
 abbrev pub with_option : Reader → ℕ → List (List ℕ) → Result Reader CfgFault
 with_option r line [] = Err (fault.Option line [])
-with_option r line (key ∷ values) =
-    if bytes_eq key (codes "isa") then with_isa r line key values
+with_option r line (key ∷ values) = if bytes_eq key (codes "isa") then with_isa r line key values
     else if bytes_eq key (codes "nret") then with_nret r line key values
     else if is_among idle_keys key then once r line key else Err (fault.Option line key)

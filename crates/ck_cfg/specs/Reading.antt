@@ -59,37 +59,22 @@ start channels = record { section = None; sections = []; keys = []; config = emp
 abbrev pub piece : ℕ → List ℕ → Piece
 piece line text = record { line = line; text = text }
 
--- a line of text for the checks of a kind
-abbrev pub kind_piece : CheckKind → ℕ → List ℕ → KindPiece
-kind_piece kind line text = record { kind = kind; piece = piece line text }
-
--- one line more for all checks
-abbrev pub with_define : Reader → Piece → Reader
-with_define r p = record r { config = record r.config { defines = r.config.defines ++ p ∷ [] } }
-
--- one line more for the checks of a kind
-abbrev pub with_kind_define : Reader → KindPiece → Reader
-with_kind_define r p = record r { config = record r.config { kind_defines = r.config.kind_defines ++ p ∷ [] } }
-
--- one name more of a check that comes first
-abbrev pub with_sort : Reader → List ℕ → Reader
-with_sort r name = record r { config = record r.config { sort = r.config.sort ++ name ∷ [] } }
-
--- one assumption more
-abbrev pub with_assume : Reader → Piece → Reader
-with_assume r p = record r { config = record r.config { assumes = r.config.assumes ++ p ∷ [] } }
-
--- a line of text in a section
+-- a line of text in a section: an option, a depth, a line for all checks or for those of a kind, names of files, the
+-- name of a check that comes first, or an assumption
 abbrev pub with_text_in : Section → Reader → ℕ → List ℕ → Result Reader CfgFault
 with_text_in Options r line text = with_option r line (words text)
 with_text_in Depth r line text = with_depth r line (words text)
-with_text_in Defines r line text = Ok (with_define r (piece line text))
-with_text_in (KindDefines kind) r line text = Ok (with_kind_define r (kind_piece kind line text))
+with_text_in Defines r line text =
+    Ok (record r { config = record r.config { defines = r.config.defines ++ piece line text ∷ [] } })
+with_text_in (KindDefines kind) r line text =
+    let p : KindPiece = record { kind = kind; piece = piece line text } in
+    Ok (record r { config = record r.config { kind_defines = r.config.kind_defines ++ p ∷ [] } })
 with_text_in VerilogFiles r line text = Ok (with_files r (text ∷ []))
 with_text_in ScriptSources r line text = with_script r line (words text)
 with_text_in Csrs r line text = Ok r
-with_text_in Sort r line text = Ok (with_sort r text)
-with_text_in Assume r line text = Ok (with_assume r (piece line text))
+with_text_in Sort r line text = Ok (record r { config = record r.config { sort = r.config.sort ++ text ∷ [] } })
+with_text_in Assume r line text =
+    Ok (record r { config = record r.config { assumes = r.config.assumes ++ piece line text ∷ [] } })
 
 -- a line of text, which stands in this section, or in none
 abbrev pub with_text_at : Option Section → Reader → ℕ → List ℕ → Result Reader CfgFault
@@ -130,8 +115,7 @@ with_lines r (l ∷ ls) = and_then (with_line r l) (λ s. with_lines s ls)
 
 -- the lines end: there is a depth line, and a file name
 abbrev pub finished : Reader → Result Config CfgFault
-finished r =
-    if is_nil r.config.depths && is_nil r.config.skips then Err (fault.Missing (codes "depth"))
+finished r = if is_nil r.config.depths && is_nil r.config.skips then Err (fault.Missing (codes "depth"))
     else if is_nil r.config.files then Err (fault.Missing (codes "verilog-files")) else Ok r.config
 
 -- the configuration of lines, or why they have none; their number of channels holds from the first one on

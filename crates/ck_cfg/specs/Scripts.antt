@@ -29,8 +29,7 @@ script_options = codes "-sv" ∷ codes "-formal" ∷ []
 -- the names behind the options: one or more, none of which begins with `-`
 abbrev pub names_behind : List (List ℕ) → Option (List (List ℕ))
 names_behind [] = None
-names_behind (w ∷ ws) =
-    if is_among script_options w then names_behind ws
+names_behind (w ∷ ws) = if is_among script_options w then names_behind ws
     else if list_any (begins_with 45) (w ∷ ws) then None else Some (w ∷ ws)
 
 -- the names of the files that the words read

@@ -1,12 +1,10 @@
 -- Meaning: The sections of a configuration and their names (documentation of riscv-formal, in this project's profile).
-use Rattle.std.specs.Prelude.{ℕ, List, [], ◌∷◌, ◌++◌, Option, find, codes}
+use Rattle.std.specs.Prelude.{ℕ, List, [], ◌∷◌, ◌++◌, Option, map, find, codes}
 use Rattle.std.specs.Str.{bytes_eq}
-use Rattle.ck_cfg.specs.declared.kind.CheckKind.TheVariants.{Insn, Ill, Reg, PcFwd, PcBwd, Causal, Unique, Liveness}
-use Rattle.ck_cfg.specs.declared.kind.CheckKind.TheVariants.{Imem, Dmem}
 use Rattle.ck_cfg.specs.declared.section.Section.{Section}
 use Rattle.ck_cfg.specs.declared.section.Section.TheVariants.{Options, Depth, Defines, KindDefines, VerilogFiles}
 use Rattle.ck_cfg.specs.declared.section.Section.TheVariants.{ScriptSources, Csrs, Sort, Assume}
-use Rattle.ck_cfg.specs.Kind.{kind_name}
+use Rattle.ck_cfg.specs.Kind.{kind_name, kinds}
 
 -- the name between the brackets
 unfoldable pub section_name : Section → List ℕ
@@ -22,11 +20,8 @@ section_name Assume = codes "assume"
 
 -- all sections
 abbrev pub sections : List Section
-sections =
-    Options ∷ Depth ∷ Defines
-    ∷ KindDefines Insn ∷ KindDefines Ill ∷ KindDefines Reg ∷ KindDefines PcFwd ∷ KindDefines PcBwd
-    ∷ KindDefines Causal ∷ KindDefines Unique ∷ KindDefines Liveness ∷ KindDefines Imem ∷ KindDefines Dmem
-    ∷ VerilogFiles ∷ ScriptSources ∷ Csrs ∷ Sort ∷ Assume ∷ []
+sections = Options ∷ Depth ∷ Defines ∷ (map (λ kind. KindDefines kind) kinds
+    ++ VerilogFiles ∷ ScriptSources ∷ Csrs ∷ Sort ∷ Assume ∷ [])
 
 -- the section of this name, if there is one
 unfoldable pub section_named : List ℕ → Option Section

@@ -33,12 +33,8 @@ channel_behind channels (a ∷ b ∷ c ∷ ds) =
     else None
 channel_behind channels rest = None
 
--- this kind, and the channel that stands behind it
-abbrev pub target_from : ℕ → List ℕ → CheckKind → Option Target
-target_from channels word kind =
-    option_map (λ channel. record { kind = kind; channel = channel })
-    (channel_behind channels (drop (length (kind_name kind)) word))
-
 -- the kind and the channel of a word; None where the kind or the channel is wrong
 abbrev pub target_of : ℕ → List ℕ → Option Target
-target_of channels word = option_and_then (target_from channels word) (kind_begun word)
+target_of channels word =
+    option_and_then (λ kind. option_map (λ channel. record { kind = kind; channel = channel })
+    (channel_behind channels (drop (length (kind_name kind)) word))) (kind_begun word)

@@ -64,8 +64,7 @@ values_at run k = slice_index_or run k no_values
 -- the retirements of so many cycles from the first one on, cycle by cycle and in each by channel
 abbrev pub retirements : List Values → ℕ → ℕ → ℕ → List Retired
 retirements run channels first zero = []
-retirements run channels first (suc count) =
-    retirements run channels first count
+retirements run channels first (suc count) = retirements run channels first count
     ++ retired_from (values_at run (first + count)) (first + count) 0 channels
 
 -- what a run is probed by in a cycle; 0 where it isn't

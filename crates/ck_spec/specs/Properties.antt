@@ -51,13 +51,12 @@ module _ (check : Check) (rs : List Retired) where
       (last_earlier check (λ e. nat_lt e.order order && e.rd_addr == register) rs) (λ e. e.rd_wdata == value)
 
   abbrev pub reads_what_was_written : Retire → Bool
-  reads_what_was_written r =
-      was_written r.order r.rs1_addr r.rs1_rdata && was_written r.order r.rs2_addr r.rs2_rdata
+  reads_what_was_written r = was_written r.order r.rs1_addr r.rs1_rdata && was_written r.order r.rs2_addr r.rs2_rdata
 
   -- it is where the one of the order before it went on, but for an interrupt
   abbrev pub goes_on : Retire → Bool
-  goes_on r = r.intr
-      || where_found (last_earlier check (λ e. r.order == e.order + 1) rs) (λ e. e.pc_wdata == r.pc_rdata)
+  goes_on r = r.intr || where_found
+      (last_earlier check (λ e. r.order == e.order + 1) rs) (λ e. e.pc_wdata == r.pc_rdata)
 
   -- the one of the order behind it, where that is no interrupt, is where it went on
   abbrev pub is_gone_on_from : Retire → Bool
@@ -82,13 +81,11 @@ module _ (check : Check) (rs : List Retired) where
 
   -- its order is that of no other
   abbrev pub has_own_order : Retire → Bool
-  has_own_order r =
-      list_all (λ e. implies (counts check e && e.retire.order == r.order) (is_at check check.trig e)) rs
+  has_own_order r = list_all (λ e. implies (counts check e && e.retire.order == r.order) (is_at check check.trig e)) rs
 
   -- the order behind it is there, but behind a halt and the last order
   abbrev pub is_followed : Retire → Bool
-  is_followed r =
-      r.halt || r.order == 2 ^ 64 - 1 || has_next check r.order rs
+  is_followed r = r.halt || r.order == 2 ^ 64 - 1 || has_next check r.order rs
 
   -- the property, of the retirement that the check is about
   abbrev pub holds_at : Probe → Opts → Retire → CheckKind → Bool
@@ -105,16 +102,9 @@ module _ (check : Check) (rs : List Retired) where
 
 -- the cycle of that retirement: the trigger's, or that of the check
 abbrev pub cycle_of : Check → CheckKind → ℕ
-cycle_of check kind.Insn = check.cycle
-cycle_of check kind.Ill = check.cycle
-cycle_of check kind.Reg = check.cycle
-cycle_of check kind.PcFwd = check.cycle
-cycle_of check kind.PcBwd = check.cycle
-cycle_of check kind.Causal = check.cycle
 cycle_of check kind.Unique = check.trig
 cycle_of check kind.Liveness = check.trig
-cycle_of check kind.Imem = check.cycle
-cycle_of check kind.Dmem = check.cycle
+cycle_of check kind = check.cycle
 
 -- the property of a check: it holds where the retirement that it is about isn't there
 abbrev pub property : Check → List Retired → Probe → Opts → Bool

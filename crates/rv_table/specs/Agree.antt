@@ -7,8 +7,7 @@ use Rattle.rv_table.specs.Fields.{field}
 
 -- a source that is read is the given one, and a given x0 is 0
 abbrev pub source_agrees : ℕ → ℕ → ℕ → Bool
-source_agrees wanted address value =
-    (wanted == 0 || wanted == address) && (not (address == 0) || value == 0)
+source_agrees wanted address value = (wanted == 0 || wanted == address) && (not (address == 0) || value == 0)
 
 -- the mask has the byte of this index
 abbrev pub has : ℕ → ℕ → Bool
@@ -25,8 +24,7 @@ keeps r index = has r.mem_rmask index && byte index r.mem_wdata == byte index r.
 -- a byte of the instruction is written with its value
 abbrev pub written_agrees : Retire → Effect → ℕ → Bool
 written_agrees r e index =
-    if has e.wmask index
-    then has r.mem_wmask index && byte index r.mem_wdata == byte index e.wdata
+    if has e.wmask index then has r.mem_wmask index && byte index r.mem_wdata == byte index e.wdata
     else (not (has r.mem_wmask index) || keeps r index)
 
 -- and a byte that is to be read is
@@ -43,8 +41,7 @@ address_agrees r e = (e.rmask == 0 && e.wmask == 0) || r.mem_addr == e.mem_addr
 
 -- rd, where it goes on, and memory
 abbrev pub results_agree : Retire → Effect → Bool
-results_agree r e =
-    r.rd_addr == e.rd_addr && (r.rd_wdata == e.rd_wdata
+results_agree r e = r.rd_addr == e.rd_addr && (r.rd_wdata == e.rd_wdata
     && (r.pc_wdata == e.pc_wdata && (address_agrees r e && bytes_agree r e)))
 
 -- both are true, or both are false
@@ -54,7 +51,5 @@ same a b = if a then b else not b
 -- under a trap only the sources and the trap itself count
 unfoldable pub agrees : Retire → Effect → Bool
 agrees r e =
-    source_agrees e.rs1_addr r.rs1_addr r.rs1_rdata
-    && (source_agrees e.rs2_addr r.rs2_addr r.rs2_rdata
-    && (same r.trap e.trap
-    && (e.trap || results_agree r e)))
+    source_agrees e.rs1_addr r.rs1_addr r.rs1_rdata && (source_agrees e.rs2_addr r.rs2_addr r.rs2_rdata
+    && (same r.trap e.trap && (e.trap || results_agree r e)))

@@ -42,8 +42,7 @@ abbrev pub laid_out : Form → Pattern → Operands → ℕ
 laid_out R p x = of_parts p.opcode x.rd (funct3_of p) x.rs1 x.rs2 (unwrap_or p.funct7 0)
 laid_out I p x =
     of_parts p.opcode x.rd (funct3_of p) x.rs1 (field 4 0 x.immediate) (unwrap_or p.funct7 (field 11 5 x.immediate))
-laid_out S p x =
-    of_parts p.opcode (field 4 0 x.immediate) (funct3_of p) x.rs1 x.rs2 (field 11 5 x.immediate)
+laid_out S p x = of_parts p.opcode (field 4 0 x.immediate) (funct3_of p) x.rs1 x.rs2 (field 11 5 x.immediate)
 laid_out B p x =
     of_parts p.opcode (moved 4 1 1 x.immediate + field 11 11 x.immediate) (funct3_of p) x.rs1 x.rs2
     (moved 12 12 6 x.immediate + field 10 5 x.immediate)

@@ -131,8 +131,7 @@ word_offset h = moved 5 5 6 h + moved 12 10 3 h + moved 6 6 2 h
 -- C.J, C.JAL: imm[11|4|9:8|10|6|7|3:1|5] in bits 12:2
 unfoldable pub jump_offset : ℕ → ℕ
 jump_offset h =
-    sign_extended 12 (
-    (moved 12 12 11 h + moved 8 8 10 h + moved 10 9 8 h + moved 6 6 7 h)
+    sign_extended 12 ((moved 12 12 11 h + moved 8 8 10 h + moved 10 9 8 h + moved 6 6 7 h)
     + (moved 7 7 6 h + moved 2 2 5 h + moved 11 11 4 h + moved 5 3 1 h))
 
 -- nzimm[9] in bit 12, nzimm[4|6|8:7|5] in 6:2
@@ -146,8 +145,7 @@ lui_immediate h = sign_extended 18 (moved 12 12 17 h + moved 6 2 12 h)
 
 -- C.BEQZ, C.BNEZ: imm[8|4:3] in bits 12:10, imm[7:6|2:1|5] in 6:2
 unfoldable pub branch_offset : ℕ → ℕ
-branch_offset h =
-    sign_extended 9 (moved 12 12 8 h + moved 6 5 6 h + moved 2 2 5 h + moved 11 10 3 h + moved 4 3 1 h)
+branch_offset h = sign_extended 9 (moved 12 12 8 h + moved 6 5 6 h + moved 2 2 5 h + moved 11 10 3 h + moved 4 3 1 h)
 
 -- uimm[5] in bit 12, uimm[4:2|7:6] in 6:2
 unfoldable pub lwsp_offset : ℕ → ℕ

@@ -21,7 +21,7 @@ use Rattle.rv_table.specs.declared.retire.Opts.{Opts}
 use Rattle.rv_table.specs.declared.retire.Effect.{Effect}
 use Rattle.rv_table.specs.declared.step.Step.{Step}
 use Rattle.rv_table.specs.declared.pattern.Form.{Form}
-use Rattle.rv_table.specs.declared.pattern.Form.TheVariants.{R, I, S, B, U, J}
+use Rattle.rv_table.specs.declared.pattern.Form.TheVariants.{R, S, B, U, J}
 use Rattle.rv_table.specs.declared.row.BaseRow.{BaseRow}
 use Rattle.rv_table.specs.declared.row.BaseRow.TheVariants.{Lui, Auipc, Jal, Jalr, Branch, Load, Store, Immediate}
 use Rattle.rv_table.specs.declared.row.BaseRow.TheVariants.{Register, Multiply}
@@ -40,6 +40,7 @@ use Rattle.rv_table.specs.declared.row.MultiplyRow.TheVariants.{Mul, Mulh, Mulhs
 use Rattle.rv_table.specs.declared.row.CompressedRow.{CompressedRow}
 use Rattle.rv_table.specs.declared.row.RowId.{RowId}
 use Rattle.rv_table.specs.declared.row.RowId.TheVariants.{Base, Compressed}
+use Rattle.fv_bits.specs.Bits.{bit}
 use Rattle.rv_table.specs.Fields.{field, sign_extended}
 use Rattle.rv_table.specs.Immediates.{i_immediate, s_immediate, b_immediate, u_immediate, j_immediate}
 use Rattle.rv_table.specs.Rows.{base_row}
@@ -51,7 +52,6 @@ use Rattle.rv_table.specs.Arithmetic.{
   sum,
   difference,
   product,
-  truth,
   is_less_signed,
   shifted_left,
   shifted_right,
@@ -66,30 +66,22 @@ use Rattle.rv_table.specs.Arithmetic.{
 -- ---- what an instruction reads (manual, section 2.2)
 
 abbrev pub reads_first : Form → Bool
-reads_first R = true
-reads_first I = true
-reads_first S = true
-reads_first B = true
 reads_first U = false
 reads_first J = false
+reads_first form = true
 
 -- the form has rs2
 abbrev pub reads_second : Form → Bool
 reads_second R = true
-reads_second I = false
 reads_second S = true
 reads_second B = true
-reads_second U = false
-reads_second J = false
+reads_second form = false
 
 -- the form has rd
 abbrev pub writes : Form → Bool
-writes R = true
-writes I = true
 writes S = false
 writes B = false
-writes U = true
-writes J = true
+writes form = true
 
 -- a number where the form has it, and else 0
 abbrev pub where_there : Bool → ℕ → ℕ
@@ -125,19 +117,18 @@ next x = sum x.pc x.length
 
 -- rd gets the value; the next instruction follows
 unfoldable pub gives : Step → ℕ → Effect
-gives x value =
-    record {
-      rs1_addr = x.rs1_addr;
-      rs2_addr = x.rs2_addr;
-      rd_addr = x.rd_addr;
-      rd_wdata = unless_x0 x.rd_addr value;
-      pc_wdata = next x;
-      mem_addr = 0;
-      rmask = 0;
-      wmask = 0;
-      wdata = 0;
-      trap = false;
-    }
+gives x value = record {
+  rs1_addr = x.rs1_addr;
+  rs2_addr = x.rs2_addr;
+  rd_addr = x.rd_addr;
+  rd_wdata = unless_x0 x.rd_addr value;
+  pc_wdata = next x;
+  mem_addr = 0;
+  rmask = 0;
+  wmask = 0;
+  wdata = 0;
+  trap = false;
+}
 
 -- a jump to what is no multiple of 4 traps, unless there are compressed instructions (section 2.5)
 abbrev pub is_misaligned_target : Step → ℕ → Bool
@@ -228,9 +219,7 @@ load_size Lhu = 2
 abbrev pub extended : LoadRow → ℕ → ℕ
 extended Lb n = sign_extended 8 n
 extended Lh n = sign_extended 16 n
-extended Lw n = n
-extended Lbu n = n
-extended Lhu n = n
+extended row n = n
 
 -- how many bytes
 abbrev pub store_size : StoreRow → ℕ
@@ -241,8 +230,8 @@ store_size Sw = 4
 -- section 2.4; b is the immediate, whose low five bits are the amount of a shift
 abbrev pub immediate_result : ImmediateRow → ℕ → ℕ → ℕ
 immediate_result Addi a b = sum a b
-immediate_result Slti a b = truth (is_less_signed a b)
-immediate_result Sltiu a b = truth (nat_lt a b)
+immediate_result Slti a b = bit (is_less_signed a b)
+immediate_result Sltiu a b = bit (nat_lt a b)
 immediate_result Xori a b = bit_xor a b
 immediate_result Ori a b = bit_or a b
 immediate_result Andi a b = bit_and a b
@@ -255,8 +244,8 @@ abbrev pub register_result : RegisterRow → ℕ → ℕ → ℕ
 register_result Add a b = sum a b
 register_result Sub a b = difference a b
 register_result Sll a b = shifted_left a b
-register_result Slt a b = truth (is_less_signed a b)
-register_result Sltu a b = truth (nat_lt a b)
+register_result Slt a b = bit (is_less_signed a b)
+register_result Sltu a b = bit (nat_lt a b)
 register_result Xor a b = bit_xor a b
 register_result Srl a b = shifted_right a b
 register_result Sra a b = shifted_right_signed a b

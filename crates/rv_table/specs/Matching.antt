@@ -75,22 +75,10 @@ demands (Compressed row) = half_demands (compressed_row row)
 unfoldable pub matches : RowId → ℕ → Bool
 matches row w = list_all (meets w) (demands row)
 
--- RV32I is always there, and M is an option
-abbrev pub has_base : Isa → BaseRow → Bool
-has_base isa Lui = true
-has_base isa Auipc = true
-has_base isa Jal = true
-has_base isa Jalr = true
-has_base isa (Branch row) = true
-has_base isa (Load row) = true
-has_base isa (Store row) = true
-has_base isa (Immediate row) = true
-has_base isa (Register row) = true
-has_base isa (Multiply row) = isa.m
-
--- the instruction set has this row
+-- the instruction set has this row: RV32I is always there, and M and C are options
 abbrev pub has : Isa → RowId → Bool
-has isa (Base row) = has_base isa row
+has isa (Base (Multiply row)) = isa.m
+has isa (Base row) = true
 has isa (Compressed row) = isa.c
 
 -- the row is one of the instruction set, and the word matches it

@@ -1,5 +1,5 @@
 -- Meaning: The rows of RV32I and M: manual, chapter 24, 'RV32/64G Instruction Set Listings', in this project's order.
-use Rattle.std.specs.Prelude.{ℕ, List, Some, None, codes}
+use Rattle.std.specs.Prelude.{ℕ, List, Option, Some, None, codes}
 use Rattle.rv_table.specs.declared.row.BaseRow.{BaseRow}
 use Rattle.rv_table.specs.declared.row.BaseRow.TheVariants.{Lui, Auipc, Jal, Jalr, Branch, Load, Store, Immediate}
 use Rattle.rv_table.specs.declared.row.BaseRow.TheVariants.{Register, Multiply}
@@ -24,26 +24,20 @@ pub record Row : Type 0 where
   pub name : List ℕ
   pub pattern : Pattern
 
+-- a row by its parts
+abbrev pub whole_row : List ℕ → ℕ → Form → Option ℕ → Option ℕ → Row
+whole_row name opcode form funct3 funct7 =
+    record { name = name; pattern = record { opcode = opcode; funct3 = funct3; funct7 = funct7; form = form } }
+
 -- the opcode alone; with funct3; with funct3 and funct7
 abbrev pub with_opcode : List ℕ → ℕ → Form → Row
-with_opcode name opcode form =
-    record { name = name; pattern = record { opcode = opcode; funct3 = None; funct7 = None; form = form } }
+with_opcode name opcode form = whole_row name opcode form None None
 
 abbrev pub with_funct3 : List ℕ → ℕ → Form → ℕ → Row
-with_funct3 name opcode form funct3 =
-    record { name = name; pattern = record { opcode = opcode; funct3 = Some funct3; funct7 = None; form = form } }
+with_funct3 name opcode form funct3 = whole_row name opcode form (Some funct3) None
 
 abbrev pub with_funct7 : List ℕ → ℕ → Form → ℕ → ℕ → Row
-with_funct7 name opcode form funct3 funct7 =
-    record {
-      name = name;
-      pattern = record {
-        opcode = opcode;
-        funct3 = Some funct3;
-        funct7 = Some funct7;
-        form = form;
-      };
-    }
+with_funct7 name opcode form funct3 funct7 = whole_row name opcode form (Some funct3) (Some funct7)
 
 -- section 2.5
 abbrev pub branch_row : BranchRow → Row

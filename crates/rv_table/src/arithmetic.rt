@@ -1,6 +1,7 @@
 #![tactic(auto, using(crate::proofs::NumberLemmas::machine))]
 
 ghost use Rattle.std.specs.Prelude.{◌≡◌, ◌<◌, ◌^◌, ◌≤◌, ◌*ℤ◌, pos, unsigned_abs};
+ghost use Rattle.fv_bits.specs.Bits.{bit};
 ghost use Rattle.rv_table.specs.Arithmetic as arithmetic;
 
 pub(crate) fn is_less_signed(a: u32, b: u32) -> bool
@@ -10,7 +11,7 @@ pub(crate) fn is_less_signed(a: u32, b: u32) -> bool
 }
 
 pub(crate) fn truth(test: bool) -> u32
-    ensures { result ≡ arithmetic.truth test }
+    ensures { result ≡ bit test }
 {
     if test { 1 } else { 0 }
 }

@@ -14,6 +14,7 @@ ghost use Rattle.std.specs.Prelude.{
   bit_xor,
   IfOk,
 };
+ghost use Rattle.fv_bits.specs.Bits.{bit};
 ghost use Rattle.rv_table.specs.Arithmetic as arithmetic;
 ghost use Rattle.rv_table.specs.Effect as effect;
 ghost use Rattle.wn_net.specs.Net.{IsNodeOf, value_at};
@@ -113,7 +114,7 @@ fn truth_of_less(net: &mut Net, a: NodeId, b: NodeId) -> Result<NodeId, Memory>
     requires right { IsNodeOf net.old 32 b }
     ensures adds { AddsNodes net.old net.new }
     ensures shows { IfOk result (Shows net.old net.new 32
-        (λ g. arithmetic.truth (nat_lt (value_at net.old g a) (value_at net.old g b)))) }
+        (λ g. bit (nat_lt (value_at net.old g a) (value_at net.old g b)))) }
 {
     let test = less(net, a, b)?;
     let word = truth(net, test)?;
@@ -125,7 +126,7 @@ fn truth_of_less_signed(net: &mut Net, a: NodeId, b: NodeId) -> Result<NodeId, M
     requires right { IsNodeOf net.old 32 b }
     ensures adds { AddsNodes net.old net.new }
     ensures shows { IfOk result (Shows net.old net.new 32
-        (λ g. arithmetic.truth (arithmetic.is_less_signed (value_at net.old g a) (value_at net.old g b)))) }
+        (λ g. bit (arithmetic.is_less_signed (value_at net.old g a) (value_at net.old g b)))) }
 {
     let test = less_signed(net, a, b)?;
     let word = truth(net, test)?;

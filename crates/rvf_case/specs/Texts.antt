@@ -106,10 +106,8 @@ abbrev pub core_of : Isa → ℕ → Core
 core_of isa channels = record { compressed = isa.c; retirements = retirements_of channels }
 
 abbrev pub probes_for : List Check → Probes
-probes_for xs = record {
-  imem = list_any (λ x. is_kind x.kind kind.Imem) xs;
-  dmem = list_any (λ x. is_kind x.kind kind.Dmem) xs;
-}
+probes_for xs =
+    record { imem = list_any (λ x. is_kind x.kind kind.Imem) xs; dmem = list_any (λ x. is_kind x.kind kind.Dmem) xs }
 
 -- one more than the last cycle of each
 abbrev pub factors_of : List Question → List ℕ

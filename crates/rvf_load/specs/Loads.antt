@@ -51,18 +51,12 @@ pub record Asked : Type 0 where
 
 -- ---- options: macros that are defined behind the texts
 
-abbrev pub is_defined : Held → List ℕ → Bool
-is_defined macros name = is_some (macros name)
-
 abbrev pub is_aligned : Held → Bool
-is_aligned macros = is_defined macros (codes "RISCV_FORMAL_ALIGNED_MEM")
+is_aligned macros = is_some (macros (codes "RISCV_FORMAL_ALIGNED_MEM"))
 
 abbrev pub opts_of : Core → Held → Opts
-opts_of core macros = record {
-  aligned = is_aligned macros;
-  altops = is_defined macros (codes "RISCV_FORMAL_ALTOPS");
-  c = core.compressed;
-}
+opts_of core macros =
+    record { aligned = is_aligned macros; altops = is_some (macros (codes "RISCV_FORMAL_ALTOPS")); c = core.compressed }
 
 abbrev pub wants_of : Probes → Held → Wants
 wants_of probes macros = record { imem = probes.imem; dmem = probes.dmem; aligned = is_aligned macros }

@@ -34,26 +34,16 @@ field_name f.DmemAddr = codes "dmem_addr"
 abbrev pub field_width : Field → ℕ
 field_width f.Valid = 1
 field_width f.Order = 64
-field_width f.Insn = 32
 field_width f.Trap = 1
 field_width f.Halt = 1
 field_width f.Intr = 1
 field_width f.Rs1Addr = 5
 field_width f.Rs2Addr = 5
-field_width f.Rs1Rdata = 32
-field_width f.Rs2Rdata = 32
 field_width f.RdAddr = 5
-field_width f.RdWdata = 32
-field_width f.PcRdata = 32
-field_width f.PcWdata = 32
-field_width f.MemAddr = 32
 field_width f.MemRmask = 4
 field_width f.MemWmask = 4
-field_width f.MemRdata = 32
-field_width f.MemWdata = 32
-field_width f.ImemAddr = 32
 field_width f.ImemData = 16
-field_width f.DmemAddr = 32
+field_width field = 32
 
 -- the fields of a channel
 abbrev pub channel_fields : List Field

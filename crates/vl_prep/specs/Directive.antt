@@ -31,8 +31,7 @@ directive_text TimeScale = codes "timescale"
 directive_text DefaultNetType = codes "default_nettype"
 
 abbrev pub directives : List Directive
-directives = Define ∷ Undef ∷ IfDef ∷ IfNotDef ∷ ElseIf ∷ Else ∷ EndIf ∷ Include ∷ TimeScale
-    ∷ DefaultNetType ∷ []
+directives = Define ∷ Undef ∷ IfDef ∷ IfNotDef ∷ ElseIf ∷ Else ∷ EndIf ∷ Include ∷ TimeScale ∷ DefaultNetType ∷ []
 
 -- the directive with this word. Any other word is a macro's name
 unfoldable pub directive_of : List ℕ → Option Directive

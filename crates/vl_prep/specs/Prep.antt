@@ -60,8 +60,7 @@ abbrev pub at_first : Held → Done
 at_first macros = record { macros = macros; output = []; refusal = None }
 
 abbrev pub redefined : List ℕ → Option (List Token) → Done → Done
-redefined name text done =
-    record { macros = with_text name text done.macros; output = done.output; refusal = done.refusal }
+redefined name text done = record done { macros = with_text name text done.macros }
 
 abbrev pub moved : Token → Pos → Token
 moved t pos = record { kind = t.kind; pos = pos; named = t.named }
@@ -71,8 +70,7 @@ put_out done t = record { macros = done.macros; output = done.output ++ t ∷ []
 
 -- one more refusal is met
 abbrev pub refused : Pos → Cause → Done → Done
-refused place cause done =
-    record { macros = done.macros; output = done.output; refusal = Some (least done.refusal (refusal place cause)) }
+refused place cause done = record done { refusal = Some (least done.refusal (refusal place cause)) }
 
 abbrev pub is_defined : Done → List ℕ → Bool
 is_defined done name = is_some (done.macros name)
@@ -144,9 +142,8 @@ module _ (at : Option Pos) where
 
   -- a token on the line of a macro's text. A bracket directly behind the name is refused, and is of the text
   abbrev pub in_body : Stand → Body → Token → Stand
-  in_body s b t = record {
+  in_body s b t = record s {
     done = if has_bracket b t then refused (place t.pos) cause.MacroArgs s.done else s.done;
-    opens = s.opens;
     reading = InBody (body_with b t t.kind);
   }
 

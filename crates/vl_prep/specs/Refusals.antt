@@ -20,8 +20,7 @@ number NoName = 7
 
 -- the place stands before the other
 abbrev pub is_sooner : Pos → Pos → Bool
-is_sooner p q =
-    if p.file == q.file then if p.line == q.line then nat_lt p.col q.col else nat_lt p.line q.line
+is_sooner p q = if p.file == q.file then if p.line == q.line then nat_lt p.col q.col else nat_lt p.line q.line
     else nat_lt p.file q.file
 
 abbrev pub is_place : Pos → Pos → Bool
@@ -29,8 +28,7 @@ is_place p q = p.file == q.file && p.line == q.line && p.col == q.col
 
 -- the refusal is answered where the other is there too
 abbrev pub is_before : Refusal → Refusal → Bool
-is_before r s =
-    if is_place r.place s.place then nat_lt (number r.cause) (number s.cause) else is_sooner r.place s.place
+is_before r s = if is_place r.place s.place then nat_lt (number r.cause) (number s.cause) else is_sooner r.place s.place
 
 -- of what is answered so far, and one more refusal
 abbrev pub least : Option Refusal → Refusal → Refusal

@@ -40,8 +40,7 @@ sign_at sign at = record { kind = k.Symbol sign; pos = at; named = refl }
 -- `always @* assume (` in front of a line's tokens, at a place
 abbrev pub front_at : Pos → List Token
 front_at at =
-    word_at w.Always at ∷ sign_at s.At at ∷ sign_at s.Star at ∷ word_at w.Assume at ∷ sign_at s.OpenParen at
-    ∷ []
+    word_at w.Always at ∷ sign_at s.At at ∷ sign_at s.Star at ∷ word_at w.Assume at ∷ sign_at s.OpenParen at ∷ []
 
 -- `);` behind them
 abbrev pub end_at : Pos → List Token
@@ -118,8 +117,7 @@ begins_top t ts = is_module t.kind && is_top ts
 -- how many stand in front of the first `endmodule` behind the first `module rvfi_wrapper`
 abbrev pub end_of_top : ℕ → List Token → Option ℕ
 end_of_top before [] = None
-end_of_top before (t ∷ ts) =
-    if begins_top t ts then first_end (before + 1) ts else end_of_top (before + 1) ts
+end_of_top before (t ∷ ts) = if begins_top t ts then first_end (before + 1) ts else end_of_top (before + 1) ts
 
 -- the items behind so many tokens; where the top module has no end, they are dropped
 abbrev pub put_in : Option ℕ → List Token → List Token → List Token

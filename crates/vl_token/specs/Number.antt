@@ -62,8 +62,7 @@ is_mixed base digits = is_decimal_base base && (list_any is_mark digits && nat_l
 
 -- no digits, a digit that isn't of the base, or a mixture
 abbrev pub is_misspelt : Format → Bool
-is_misspelt f =
-    is_empty f.digits || not (list_all (is_digit_in (radix f.base)) (digits_of f.digits))
+is_misspelt f = is_empty f.digits || not (list_all (is_digit_in (radix f.base)) (digits_of f.digits))
     || is_mixed f.base (digits_of f.digits)
 
 -- wrong digits, or a misfit

@@ -9,12 +9,7 @@ counted n = min (n + 1) (2 ^ 32 - 1)
 -- the place behind a byte
 abbrev pub place_behind : Pos → ℕ → Pos
 place_behind p b =
-    record {
-      file = p.file;
-      line = if b == 10 then counted p.line
-          else p.line;
-      col = (if b == 10 then 1 else counted p.col);
-    }
+    record p { line = if b == 10 then counted p.line else p.line; col = if b == 10 then 1 else counted p.col }
 
 -- the place behind a text
 abbrev pub place_after : Pos → List ℕ → Pos

@@ -1,7 +1,5 @@
-use Rattle.std.specs.Prelude.{if◌then◌else◌, int_div}
-use Rattle.std.proofs.Common.{ap, sym, ◌∙◌, arith}
+use Rattle.std.proofs.Common.{arith}
 use Rattle.std.proofs.lemmas.Bool.Decides.{nat_tests}
-use Rattle.fv_bits.specs.Bits.{ones, of_int, to_int}
 use Rattle.rv_table.proofs.NumberLemmas.{wrapped_quotient}
 use Rattle.rv_table.proofs.arithmetic.quotient_signed.Goals as goal
 
