@@ -1,7 +1,7 @@
 //! The net of a line, the numbers in its registers and memories, and what a line says.
 
 use crate::part::{node_at, numbers_from, word};
-use crate::{make, rebuild, runs, show, store};
+use crate::{chain, make, rebuild, runs, show, store};
 use fv_text::{List, Memory};
 use std::alloc::Global;
 use wn_net::{Net, NodeId, State};
@@ -49,6 +49,7 @@ impl Bench {
             "copy" => self.copied(),
             "share" => self.shared(out),
             "cone" => self.coned(out, part),
+            "chain" => chain::make(self.alloc, &mut self.net, part),
             "node" => self.told(out, node_at(part, 1)),
             "parts" => self.told_parts(out),
             "undo" => self.undone(out, node_at(part, 1)),
@@ -147,7 +148,15 @@ impl Bench {
         let mut values = vec![in self.alloc; 0u128; self.net.nodes().len()]?;
         self.net
             .eval(inputs.as_slice(), &self.state, values.as_mut_slice());
-        self.put_value(out, node_at(part, 1), values.as_slice())
+        self.put_value(out, self.named(part), values.as_slice())
+    }
+
+    /// The node that the second word names by its number, or as the last.
+    fn named(&self, part: &str) -> NodeId {
+        match word(part, 1) {
+            "last" => (self.net.nodes().len() as u64).wrapping_sub(1),
+            _ => node_at(part, 1),
+        }
     }
 
     fn stepped(&mut self, out: &mut String, part: &str) -> Result<bool, Memory> {

@@ -12,6 +12,7 @@
 //! | `reg WIDTH INIT`, `next REGISTER A` | a register that begins with a number or `free`, and its next value |
 //! | `mem WIDTH INIT ..`, `write MEMORY ENABLE ADDR MASK VALUE` | a memory of as many words, and a write to it |
 //! | `assume A` | an assumption |
+//! | `chain MEMORY A NODE ..` | as the last node, the word at `A` of words that are these nodes, behind the writes to the memory |
 //! | `copy` | a copy of the net, which the rest of the line is about |
 //! | `share` | its nodes once more, equal ones once, which the rest is about; answers the new number of each |
 //! | `cone A ..` | the part on which these nodes rest, which the rest is about; answers the new number of each, or `-` |
@@ -22,7 +23,7 @@
 //! | `undo A` | how many nodes there are with one more behind it, and how many when that is taken back |
 //! | `node A` | the part that would make the node, an input or a register by its number |
 //! | `parts` | the next nodes of the registers, how many writes each memory has, and the assumptions |
-//! | `eval A NUMBER ..` | width and number of a node where the inputs have these numbers |
+//! | `eval A NUMBER ..` | width and number of a node, or of the `last`, where the inputs have these numbers |
 //! | `step A NUMBER ..` | the same, and the registers and memories behind the cycle |
 //! | `sources CYCLE BAD A` | what may be chosen in runs up to a cycle |
 //! | `run CYCLE BAD A NUMBER ..` | where these are chosen: whether `BAD` counts, and the number of `A` in it |
@@ -38,6 +39,7 @@
 #![tactic(auto)]
 
 mod bench;
+mod chain;
 mod graph;
 mod make;
 mod models;
