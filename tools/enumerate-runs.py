@@ -114,7 +114,7 @@ module rvfi_wrapper (input clock, input reset, `RVFI_OUTPUTS);
   wire met = step || a[0] || kept[3];
   always @* assume (met);
   always @(posedge clock) kept <= cube[15:0] ^ {square[17:10], 7'd0, step};
-  assign rvfi_valid = cube[11:4] == 8'h5c && square[5:4] == 2, rvfi_order = {cube, square}, rvfi_insn = 0;
+  assign rvfi_valid = cube[11:4] == 8'ha5 && square[5:4] == 2, rvfi_order = {cube, square}, rvfi_insn = 0;
   assign rvfi_trap = kept[1:0] == 2, rvfi_rs1_addr = square[12:8], rvfi_rs1_rdata = cube, rvfi_rd_addr = 0;
   assign rvfi_rd_wdata = 0, rvfi_mem_wmask = 0;
 """ + QUIET, [("step", 1)], [("a", 9)], [], [("kept", 1)]),

@@ -29,11 +29,12 @@ fn asked(alloc: Global, line: &Line) -> Result<String, Memory> {
             basedir,
             budget,
             jobs,
+            cubes,
         } => {
             let (cfg, outdir) = (shown(cfg), shown(outdir));
             let (core, basedir) = (shown(core), shown(basedir));
             format!(in alloc;
-                "run [{cfg}] [{outdir}] core [{core}] basedir [{basedir}] budget {budget} jobs {jobs}"
+                "run [{cfg}] [{outdir}] core [{core}] basedir [{basedir}] budget {budget} jobs {jobs} cubes {cubes}"
             )?
         }
         Line::List { cfg } => format!(in alloc; "list [{}]", shown(cfg))?,

@@ -1,6 +1,6 @@
 //! What is read of a memory as a chain of its writes.
 
-ghost use Rattle.std.specs.Prelude.{◌≡◌, ◌≤◌, ◌×◌, length, IfOk, IfSome, OnOk};
+ghost use Rattle.std.specs.Prelude.{◌≡◌, ◌≤◌, length, IfOk, IfSome, OnOk};
 ghost use Rattle.std.specs.List.{AllByRecursion};
 ghost use Rattle.wn_net.specs.Net.{AreNodesOf, IsNode, IsWriteOf};
 ghost use Rattle.wn_mem.specs.Words.{AreWords, words_width};

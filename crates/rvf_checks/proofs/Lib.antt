@@ -2,3 +2,4 @@ pub mod Heads
 pub mod Counting
 pub mod Loaded
 pub mod Listing
+mod Known

@@ -3,3 +3,4 @@ pub mod Deliveries
 pub mod Counting
 pub mod Answers
 pub mod Checked
+pub mod Known

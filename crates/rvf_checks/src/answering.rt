@@ -1,26 +1,26 @@
 //! What questions come to by what is loaded of their texts.
 
 ghost use Rattle.std.specs.Prelude.{◌≡◌, ◌<◌, IfOk};
-ghost use Rattle.bm_decide.specs.Searches.{TakesFewer};
 ghost use Rattle.rvf_case.specs.Cases.{IsReady};
 ghost use Rattle.rvf_checks.specs.Answers.{IsAnswerAt, name_at};
 
-use bm_decide::Plain;
+use bm_decide::Search;
 use fv_text::Memory;
 use rvf_case::Case;
 use rvf_judge::{Judged, judge};
 use std::alloc::Global;
 
 /// Answers the question at a place; past the last one there is none.
-pub(crate) fn judge_at(
+pub(crate) fn judge_at<S: Search>(
     alloc: Global,
+    search: &S,
     case: &Case,
     budget: u64,
     place: usize,
 ) -> Result<Judged, Memory>
     requires ready { IsReady case.now }
     requires budget { 0 < budget }
-    ensures { IfOk result (IsAnswerAt TakesFewer case.now budget place) }
+    ensures { IfOk result (IsAnswerAt (S.more search.now) case.now budget place) }
 {
     let Some(question) = case.questions.get(place) else {
         return Err(Memory);
@@ -30,7 +30,7 @@ pub(crate) fn judge_at(
     };
     judge(
         alloc,
-        &Plain,
+        search,
         &loaded.net,
         &loaded.names,
         &loaded.port,

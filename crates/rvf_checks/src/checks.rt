@@ -1,15 +1,17 @@
 ghost use Rattle.std.specs.Prelude.{◌≡◌, ◌<◌, ◌≤◌};
+ghost use Rattle.std.specs.Thread.{IsSync};
 ghost use Rattle.rvf_case.specs.Cases.{IsReady};
 ghost use Rattle.rvf_checks.specs.Answers.{IsAnswerAt};
 ghost use Rattle.rvf_checks.specs.Checked.{plan_of};
 ghost use Rattle.rvf_checks.specs.Counting.{places_of};
-ghost use Rattle.bm_decide.specs.Searches.{TakesFewer};
+ghost use Rattle.rvf_checks.specs.Known.{known_of};
 
 use crate::answering::{judge_at, name_at};
 use crate::check::deliveries_in;
 use crate::counts::Counts;
 use crate::head::head_in;
 use crate::last::last_in;
+use crate::splitting::Splitting;
 use crate::wording::Wording;
 use fv_text::{List, Memory};
 use rvf_case::Case;
@@ -17,12 +19,15 @@ use rvf_jobs::{Gate, Job};
 use rvf_judge::Judged;
 use rvf_report::{Delivery, Inquiry, Status};
 use std::alloc::Global;
+use std::thread::Threads;
 
 /// The questions of a case, with how they are answered and reported.
 #[derive(Drop)]
-pub struct Checks<'a, G> {
+pub struct Checks<'a, 'b, G, R> {
     /// What each question passes as it begins, with its place.
     pub gate: &'a G,
+    /// What decides the clauses of each question.
+    pub search: &'a Splitting<'b, R>,
     pub case: &'a Case,
     pub wording: Wording,
     /// The folder of the files, without a slash behind it.
@@ -31,24 +36,26 @@ pub struct Checks<'a, G> {
     pub budget: u64,
 }
 
-impl<G: Gate> Job for Checks<'_, G> {
+impl<G: Gate, R: Threads + Sync> Job for Checks<'_, '_, G, R> {
     type Answer = Judged;
 
-    ghost is_answer = { λ x place judgement. IsAnswerAt TakesFewer x.case.now x.budget place judgement };
+    ghost is_answer = { λ x place judgement.
+        IsAnswerAt (known_of x.search.now.cubes) x.case.now x.budget place judgement };
 
-    ghost can_work = { λ x. IsReady x.case.now × (0 < x.budget) };
+    // threads may share the handle: said here, since a method of a trait knows it of no type parameter
+    ghost can_work = { λ x. IsReady x.case.now × (0 < x.budget) × IsSync R.row };
 
     /// Passes the gate, and answers. There is no answer where the place isn't one of the list.
     fn work(&self, alloc: Global, index: u32) -> Result<Judged, Memory> {
         self.gate.enter(index);
-        judge_at(alloc, self.case, self.budget, index as usize)
+        judge_at(alloc, self.search, self.case, self.budget, index as usize)
     }
 }
 
-impl<G: Gate> Inquiry for Checks<'_, G> {
+impl<G: Gate, R: Threads + Sync> Inquiry for Checks<'_, '_, G, R> {
     type Tally = Counts;
 
-    ghost plan = { λ x. plan_of TakesFewer x.case.now x.wording x.folder.now x.budget };
+    ghost plan = { λ x. plan_of (known_of x.search.now.cubes) x.case.now x.wording x.folder.now x.budget };
 
     ghost tallied = { λ x many counts. (places_of counts ≡ many) × (counts.failing ≤ many) };
 

@@ -13,8 +13,10 @@ mod head;
 mod last;
 mod lines;
 mod shared;
+mod splitting;
 mod wording;
 
 pub use checks::Checks;
 pub use counts::Counts;
+pub use splitting::Splitting;
 pub use wording::Wording;

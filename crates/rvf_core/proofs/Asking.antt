@@ -61,7 +61,7 @@ no_statuses line r status none left =
 task_leaves : (line : Option Words) (own : Task) (r : Run) (status : Status) → task_asked line ≡ Some own
     → Leaves line r status
 task_leaves None own r status is = tt
-task_leaves (Some (words.Run cfg outdir core basedir budget jobs)) own r status is = tt
+task_leaves (Some (words.Run cfg outdir core basedir budget jobs cubes)) own r status is = tt
 task_leaves (Some (words.List cfg)) own r status is = tt
 task_leaves (Some (words.Lrat cnf proof)) own r status is = tt
 task_leaves (Some (words.Bench size)) own r status is = tt
@@ -83,13 +83,14 @@ task_statuses line own r status is causes = record {
 
 -- ---- the task of a line that was read, in other words
 
-pub run_asks : (l : Words) (cfg outdir core basedir a b c d : List ℕ) (budget jobs : ℕ)
-    → l ≡ words.Run cfg outdir core basedir budget jobs → a ≡ cfg → b ≡ outdir → c ≡ core → d ≡ basedir
-    → task_of l ≡ Some (run_task a b c d budget)
-run_asks l cfg outdir core basedir a b c d budget jobs e p q r s =
+pub run_asks : (l : Words) (cfg outdir core basedir a b c d : List ℕ) (budget jobs cubes : ℕ)
+    → l ≡ words.Run cfg outdir core basedir budget jobs cubes → a ≡ cfg → b ≡ outdir → c ≡ core → d ≡ basedir
+    → task_of l ≡ Some (run_task a b c d budget cubes)
+run_asks l cfg outdir core basedir a b c d budget jobs cubes e p q r s =
     ap task_of e
-    ∙ sym (ap (λ x. Some (run_task x b c d budget)) p ∙ ap (λ x. Some (run_task cfg x c d budget)) q
-    ∙ ap (λ x. Some (run_task cfg outdir x d budget)) r ∙ ap (λ x. Some (run_task cfg outdir core x budget)) s)
+    ∙ sym (ap (λ x. Some (run_task x b c d budget cubes)) p ∙ ap (λ x. Some (run_task cfg x c d budget cubes)) q
+    ∙ ap (λ x. Some (run_task cfg outdir x d budget cubes)) r
+    ∙ ap (λ x. Some (run_task cfg outdir core x budget cubes)) s)
 
 pub cover_asks : (l : Words) (o : Options) (t : Task) → l ≡ words.Cover o → t ≡ cover_task o → task_of l ≡ Some t
 cover_asks l o t e f = ap task_of e ∙ sym (ap (λ x. Some x) f)

@@ -7,7 +7,6 @@ use Rattle.fv_base.specs.declared.event.Event.{Event}
 use Rattle.fv_base.specs.declared.out.OutFault.{OutFault}
 use Rattle.fv_base.specs.declared.out.OutFault.TheVariants as out
 use Rattle.ck_cfg.specs.declared.config.Config.{Config}
-use Rattle.bm_decide.specs.Searches.{TakesFewer}
 use Rattle.ck_ask.specs.declared.question.Question.{Question}
 use Rattle.rvf_judge.specs.declared.judged.Judged.{Judged}
 use Rattle.rvf_judge.specs.Sources.{JudgementsAreTheSources}
@@ -23,6 +22,7 @@ use Rattle.rvf_checks.specs.Checked.{begun, is_noted, plan_of, whole}
 use Rattle.rvf_checks.specs.Counting.{status_of}
 use Rattle.rvf_checks.specs.declared.counts.Counts.{Counts}
 use Rattle.rvf_checks.specs.declared.wording.Wording.{Wording}
+use Rattle.rvf_checks.specs.Known.{known_of}
 use Rattle.rvf_checks.proofs.Listing.{are_answers, begun_is, status_is, whole_is}
 use Rattle.rvf_report.specs.Status.{ends}
 use Rattle.rvf_report.specs.declared.delivery.Delivery.{Delivery}
@@ -117,8 +117,8 @@ module _ (asked : Option Words) (r : Run) (middle : Outside) (earlier : IsEarlie
 
 -- ---- questions that are answered while their report is delivered
 
-module _ (law : JudgementsAreTheSources TakesFewer) (q : Request) (held : Told) (words : Wording) (folder : List ℕ)
-    (budget : ℕ) (case : Case) (is : IsCase q held case) (ready : IsReady case) where
+module _ (cubes : ℕ) (law : JudgementsAreTheSources (known_of cubes)) (q : Request) (held : Told) (words : Wording)
+    (folder : List ℕ) (budget : ℕ) (case : Case) (is : IsCase q held case) (ready : IsReady case) where
   abbrev c : Config
   c = case.config
 
@@ -128,11 +128,11 @@ module _ (law : JudgementsAreTheSources TakesFewer) (q : Request) (held : Told) 
   loaded : AreLoaded c is.files qs case.texts
   loaded = subst (λ xs. AreLoaded c is.files xs case.texts) is.questions_are is.loaded
 
-  judged : (answers : List Judged) → AreAnswers TakesFewer case budget case.questions answers
-      → AreJudged c is.files qs budget qs answers
+  judged : (answers : List Judged) → AreAnswers (known_of cubes) case budget case.questions answers
+      → AreJudged c is.files qs budget cubes qs answers
   judged answers are =
-      subst (λ xs. AreJudged c is.files xs budget xs answers) is.questions_are
-      (are_judged law case is.files budget is.loaded case.questions answers ready are)
+      subst (λ xs. AreJudged c is.files xs budget cubes xs answers) is.questions_are
+      (are_judged cubes law case is.files budget is.loaded case.questions answers ready are)
 
   noted : IsNoted c is.files qs (is_noted case)
   noted =
@@ -144,8 +144,8 @@ module _ (law : JudgementsAreTheSources TakesFewer) (q : Request) (held : Told) 
   case_read = record { configured = is.configured; read = is.read }
 
   abbrev whole_said : (status : Status) (answers : List Judged)
-      → AreAnswers TakesFewer case budget case.questions answers → length answers ≡ length case.questions
-      → status ≡ status_of case.questions answers → IsWhole q held words folder budget status
+      → AreAnswers (known_of cubes) case budget case.questions answers → length answers ≡ length case.questions
+      → status ≡ status_of case.questions answers → IsWhole q held words folder budget cubes status
       (whole words folder budget (is_noted case) c.skips case.questions answers)
   whole_said status answers are all_answered status_is = record {
     config = c;
@@ -161,8 +161,8 @@ module _ (law : JudgementsAreTheSources TakesFewer) (q : Request) (held : Told) 
     report_is = ap (λ xs. whole words folder budget (is_noted case) c.skips xs answers) is.questions_are;
   }
 
-  abbrev begun_said : (answers : List Judged) → AreAnswers TakesFewer case budget case.questions answers
-      → IsBegun q held words folder budget
+  abbrev begun_said : (answers : List Judged) → AreAnswers (known_of cubes) case budget case.questions answers
+      → IsBegun q held words folder budget cubes
       (begun words folder budget (is_noted case) c.skips case.questions answers)
   begun_said answers are = record {
     config = c;
@@ -177,18 +177,18 @@ module _ (law : JudgementsAreTheSources TakesFewer) (q : Request) (held : Told) 
   }
 
   abbrev plan : Plan Judged Counts
-  plan = plan_of TakesFewer case words folder budget
+  plan = plan_of (known_of cubes) case words folder budget
 
   -- what is said where the words ask for these questions, and which of what was read for them the files heard
   module _ (asked : Option Words) (r : Run)
       (reads : (d : Config) (files : List (List ℕ)) → HasRead q held d files → List Event)
-      (says : (status : Status) (report : List Delivery) → IsWhole q held words folder budget status report
+      (says : (status : Status) (report : List Delivery) → IsWhole q held words folder budget cubes status report
       → Says asked (seen_in r) status report)
-      (begins : (report : List Delivery) → IsBegun q held words folder budget report
+      (begins : (report : List Delivery) → IsBegun q held words folder budget cubes report
       → Begins asked (seen_in r) report)
-      (says_of : (status : Status) (report : List Delivery) (w : IsWhole q held words folder budget status report)
+      (says_of : (status : Status) (report : List Delivery) (w : IsWhole q held words folder budget cubes status report)
       → says_reads asked (seen_in r) status report (says status report w) ≡ reads w.config w.files w.read)
-      (begins_of : (report : List Delivery) (b : IsBegun q held words folder budget report)
+      (begins_of : (report : List Delivery) (b : IsBegun q held words folder budget cubes report)
       → begins_reads asked (seen_in r) report (begins report b) ≡ reads b.config b.files b.read)
       (heard : r.now.heard ≡ r.before.heard ++ reads c is.files case_read) where
     -- a report, of which this was read
@@ -201,9 +201,9 @@ module _ (law : JudgementsAreTheSources TakesFewer) (q : Request) (held : Told) 
         → reports.IsReport plan answers report → IsHeardReport report
     reported answers report are (front e) =
         let list : List Delivery = begun words folder budget (is_noted case) c.skips case.questions answers in
-        let b : IsBegun q held words folder budget list =
-        begun_said answers (are_answers TakesFewer case words folder budget answers are) in
-        subst IsHeardReport (sym (e ∙ begun_is TakesFewer case words folder budget answers are)) (
+        let b : IsBegun q held words folder budget cubes list =
+        begun_said answers (are_answers (known_of cubes) case words folder budget answers are) in
+        subst IsHeardReport (sym (e ∙ begun_is (known_of cubes) case words folder budget answers are)) (
           run.begun (begins list b),
           record {
             events = begins_reads asked (seen_in r) list (begins list b);
@@ -214,9 +214,9 @@ module _ (law : JudgementsAreTheSources TakesFewer) (q : Request) (held : Told) 
     reported answers report are (all n e) =
         let list : List Delivery = whole words folder budget (is_noted case) c.skips case.questions answers in
         let status : Status = status_of case.questions answers in
-        let w : IsWhole q held words folder budget status list =
-        whole_said status answers (are_answers TakesFewer case words folder budget answers are) n refl in
-        subst IsHeardReport (sym (e ∙ whole_is TakesFewer case words folder budget answers are)) (
+        let w : IsWhole q held words folder budget cubes status list =
+        whole_said status answers (are_answers (known_of cubes) case words folder budget answers are) n refl in
+        subst IsHeardReport (sym (e ∙ whole_is (known_of cubes) case words folder budget answers are)) (
           run.whole status (says status list w),
           record {
             events = says_reads asked (seen_in r) status list (says status list w);
@@ -229,16 +229,16 @@ module _ (law : JudgementsAreTheSources TakesFewer) (q : Request) (held : Told) 
       whole_reported : (status : Status) → reports.Reports plan middle r.now status → Reports asked r status
       whole_reported status x =
           let list : List Delivery = whole words folder budget (is_noted case) c.skips case.questions x.answers in
-          let w : IsWhole q held words folder budget status list =
-          whole_said status x.answers (are_answers TakesFewer case words folder budget x.answers x.are) x.all
-          (status_is TakesFewer case words folder budget x.answers status x.are x.status_is) in
+          let w : IsWhole q held words folder budget cubes status list =
+          whole_said status x.answers (are_answers (known_of cubes) case words folder budget x.answers x.are) x.all
+          (status_is (known_of cubes) case words folder budget x.answers status x.are x.status_is) in
           record {
             report = list;
             says = says status list w;
             heard = heard ∙ ap (λ l. r.before.heard ++ l) (sym (says_of status list w));
             delivered = later_delivers r.before middle r.now earlier list
-                (subst (λ l. Delivers middle r.now l) (whole_is TakesFewer case words folder budget x.answers x.are)
-                x.delivered);
+                (subst (λ l. Delivers middle r.now l)
+                (whole_is (known_of cubes) case words folder budget x.answers x.are) x.delivered);
           }
 
       pub ends_concluded : (status : Status) → Concludes plan status middle r.now → Ends asked r status

@@ -117,24 +117,24 @@ abbrev IsClean : Config → List (List ℕ) → List Question → Question → T
 IsClean c fs qs q = QuestionFails c fs qs q → ⊥
 
 -- a run that gives what a question seeks is found in the reading of which the question was answered
-found_judged : (c : Config) (fs : List (List ℕ)) (qs : List Question) (budget : ℕ) (q : Question) (j : Judged)
-    (run : List Values) (g : Judges c fs qs budget q j) → Gives c fs qs q run
+found_judged : (c : Config) (fs : List (List ℕ)) (qs : List Question) (budget cubes : ℕ) (q : Question) (j : Judged)
+    (run : List Values) (g : Judges c fs qs budget cubes q j) → Gives c fs qs q run
     → IsFound (design_of g.reading.tree.modules) c.nret (wants_in (text_for c fs qs (question_kind q)) g.reading) q
     (opts_in (text_for c fs qs (question_kind q)) g.reading) run
-found_judged c fs qs budget q j run g v =
+found_judged c fs qs budget cubes q j run g v =
     subst (λ y. IsFound (design_of y.tree.modules) c.nret (wants_in (text_for c fs qs (question_kind q)) y) q
     (opts_in (text_for c fs qs (question_kind q)) y) run) (g.one v.reading v.is.reads) v.found
 
 -- where no run gives what is sought, none is found
-never_given : (c : Config) (fs : List (List ℕ)) (qs : List Question) (budget : ℕ) (q : Question)
-    (texts : CertificateTexts) → Judges c fs qs budget q (judged.Never texts) → IsGiven c fs qs q → ⊥
-never_given c fs qs budget q texts g given =
-    g.judged.never given.0 (found_judged c fs qs budget q (judged.Never texts) given.0 g given.1)
+never_given : (c : Config) (fs : List (List ℕ)) (qs : List Question) (budget cubes : ℕ) (q : Question)
+    (texts : CertificateTexts) → Judges c fs qs budget cubes q (judged.Never texts) → IsGiven c fs qs q → ⊥
+never_given c fs qs budget cubes q texts g given =
+    g.judged.never given.0 (found_judged c fs qs budget cubes q (judged.Never texts) given.0 g given.1)
 
 -- and where one is found, a run gives it
-found_given : (c : Config) (fs : List (List ℕ)) (qs : List Question) (budget : ℕ) (q : Question) (dump : List ℕ)
-    → Judges c fs qs budget q (judged.Found dump) → IsGiven c fs qs q
-found_given c fs qs budget q dump g =
+found_given : (c : Config) (fs : List (List ℕ)) (qs : List Question) (budget cubes : ℕ) (q : Question) (dump : List ℕ)
+    → Judges c fs qs budget cubes q (judged.Found dump) → IsGiven c fs qs q
+found_given c fs qs budget cubes q dump g =
     (g.judged.run, record { reading = g.reading; is = g.is; found = g.judged.found })
 
 -- what a target's answer says, by whether it has a row
@@ -152,37 +152,38 @@ unmet_target None Given (judged.Found dump) e never = absurd (true_false (sym e)
 unmet_target None Given (judged.Spent texts) e never = absurd (true_false (sym e))
 unmet_target (Some row) Given j e never = absurd (true_false (sym e))
 
-module _ (c : Config) (fs : List (List ℕ)) (qs : List Question) (budget : ℕ) where
+module _ (c : Config) (fs : List (List ℕ)) (qs : List Question) (budget cubes : ℕ) where
   -- a check, or a row of Zba and Zbs, of which no run is found
-  clear_run : (q : Question) (j : Judged) → is_found j ≡ false → is_spent j ≡ false → Judges c fs qs budget q j
+  clear_run : (q : Question) (j : Judged) → is_found j ≡ false → is_spent j ≡ false → Judges c fs qs budget cubes q j
       → IsGiven c fs qs q → ⊥
-  clear_run q (judged.Never texts) e p g given = never_given c fs qs budget q texts g given
+  clear_run q (judged.Never texts) e p g given = never_given c fs qs budget cubes q texts g given
   clear_run q (judged.Found dump) e p g given = true_false e
   clear_run q (judged.Spent texts) e p g given = true_false p
 
-  failing_run : (q : Question) (j : Judged) → is_found j ≡ true → Judges c fs qs budget q j → IsGiven c fs qs q
+  failing_run : (q : Question) (j : Judged) → is_found j ≡ true → Judges c fs qs budget cubes q j → IsGiven c fs qs q
   failing_run q (judged.Never texts) e g = absurd (true_false (sym e))
-  failing_run q (judged.Found dump) e g = found_given c fs qs budget q dump g
+  failing_run q (judged.Found dump) e g = found_given c fs qs budget cubes q dump g
   failing_run q (judged.Spent texts) e g = absurd (true_false (sym e))
 
-  answer_clean : (q : Question) (j : Judged) → IsClear q j → Judges c fs qs budget q j → IsClean c fs qs q
+  answer_clean : (q : Question) (j : Judged) → IsClear q j → Judges c fs qs budget cubes q j → IsClean c fs qs q
   answer_clean (question.Check x) j p g = λ failing. clear_run (question.Check x) j p.clear p.answered g failing
   answer_clean (question.Target t) j p g = λ failing.
       clear_target t.row (IsGiven c fs qs (question.Target t)) j p.clear p.answered
-      (λ dump is. found_given c fs qs budget (question.Target t) dump
-      (subst (λ k. Judges c fs qs budget (question.Target t) k) is g)) failing
+      (λ dump is. found_given c fs qs budget cubes (question.Target t) dump
+      (subst (λ k. Judges c fs qs budget cubes (question.Target t) k) is g)) failing
   answer_clean (question.Zb z) j p g = λ failing. clear_run (question.Zb z) j p.clear p.answered g failing
 
-  answer_fails : (q : Question) (j : Judged) → fails q j ≡ true → Judges c fs qs budget q j → QuestionFails c fs qs q
+  answer_fails : (q : Question) (j : Judged) → fails q j ≡ true → Judges c fs qs budget cubes q j
+      → QuestionFails c fs qs q
   answer_fails (question.Check x) j e g = failing_run (question.Check x) j e g
   answer_fails (question.Target t) j e g =
       unmet_target t.row (IsGiven c fs qs (question.Target t)) j e
-      (λ texts is. never_given c fs qs budget (question.Target t) texts
-      (subst (λ k. Judges c fs qs budget (question.Target t) k) is g))
+      (λ texts is. never_given c fs qs budget cubes (question.Target t) texts
+      (subst (λ k. Judges c fs qs budget cubes (question.Target t) k) is g))
   answer_fails (question.Zb z) j e g = failing_run (question.Zb z) j e g
 
   -- where all are clear no question fails
-  passed_clean : (xs : List Question) (js : List Judged) → AreJudged c fs qs budget xs js → length js ≡ length xs
+  passed_clean : (xs : List Question) (js : List Judged) → AreJudged c fs qs budget cubes xs js → length js ≡ length xs
       → status_of xs js ≡ s.Passed → AllByRecursion (IsClean c fs qs) xs
   passed_clean [] js are all passed = tt
   passed_clean (x ∷ xs) [] are all passed = absurd (none_left x xs all)
@@ -193,13 +194,13 @@ module _ (c : Config) (fs : List (List ℕ)) (qs : List Question) (budget : ℕ)
       )
 
   -- one fails, or another one does
-  unclean_or : (q : Question) (j : Judged) (Other : Type 0) → (fails q j ≡ true) ⊎ Other → Judges c fs qs budget q j
-      → IsClean c fs qs q → (Other → ⊥) → ⊥
+  unclean_or : (q : Question) (j : Judged) (Other : Type 0) → (fails q j ≡ true) ⊎ Other
+      → Judges c fs qs budget cubes q j → IsClean c fs qs q → (Other → ⊥) → ⊥
   unclean_or q j Other (inl e) g clean none = clean (answer_fails q j e g)
   unclean_or q j Other (inr p) g clean none = none p
 
   -- where one fails a question fails
-  failing_unclean : (xs : List Question) (js : List Judged) → AreJudged c fs qs budget xs js
+  failing_unclean : (xs : List Question) (js : List Judged) → AreJudged c fs qs budget cubes xs js
       → status_of xs js ≡ s.Failing → AllByRecursion (IsClean c fs qs) xs → ⊥
   failing_unclean [] [] are failing clean = passed_failing failing
   failing_unclean (x ∷ xs) [] are failing clean = passed_failing failing
@@ -220,37 +221,37 @@ module _ (q : Request) (names : Names) (misses misses_now faults faults_now : �
     faults_now = faults_now;
   }
 
-  pass_said : (folder : List ℕ) (budget : ℕ) (status : Status) (report : List Delivery)
-      → Checks q seen told folder budget status report → All (IsClean c fs (questions_in q c)) (questions_in q c)
+  pass_said : (folder : List ℕ) (budget cubes : ℕ) (status : Status) (report : List Delivery)
+      → Checks q seen told folder budget cubes status report → All (IsClean c fs (questions_in q c)) (questions_in q c)
       → comes_in_budget s.Passed status ≡ true
-  pass_said folder budget status report (checks.judged w) clean =
+  pass_said folder budget cubes status report (checks.judged w) clean =
       let P : Config → List (List ℕ) → Type 0 =
-      λ d gs. AreJudged d gs (questions_in q d) budget (questions_in q d) w.answers
+      λ d gs. AreJudged d gs (questions_in q d) budget cubes (questions_in q d) w.answers
       × (status ≡ status_of (questions_in q d) w.answers) in
       let are : P c fs = moved q names P c w.config fs w.files read w.read (w.judged, w.status_is) in
       subst (λ x. comes_in_budget s.Passed x ≡ true) (sym are.1)
       (by_verdict (comes_in_budget s.Passed) (status_of (questions_in q c) w.answers)
       (is_verdict (questions_in q c) w.answers) (λ e. refl)
-      (λ e. absurd (failing_unclean c fs (questions_in q c) budget (questions_in q c) w.answers are.0 e
+      (λ e. absurd (failing_unclean c fs (questions_in q c) budget cubes (questions_in q c) w.answers are.0 e
       (recursion_from_All (IsClean c fs (questions_in q c)) (questions_in q c) clean))) refl)
-  pass_said folder budget status report (checks.refused w) clean =
+  pass_said folder budget cubes status report (checks.refused w) clean =
       absurd (uncaused q names misses misses_now faults faults_now c fs no_fault read unrefused w.refusal w.cause)
 
-  judged_said : (folder : List ℕ) (budget : ℕ) (status : Status) (report : List Delivery)
-      → Checks q seen told folder budget status report → comes_judged status ≡ true
-  judged_said folder budget status report (checks.judged w) =
+  judged_said : (folder : List ℕ) (budget cubes : ℕ) (status : Status) (report : List Delivery)
+      → Checks q seen told folder budget cubes status report → comes_judged status ≡ true
+  judged_said folder budget cubes status report (checks.judged w) =
       subst (λ x. comes_judged x ≡ true) (sym w.status_is)
       (by_verdict comes_judged (status_of (questions_in q w.config) w.answers)
       (is_verdict (questions_in q w.config) w.answers) (λ e. refl) (λ e. refl) refl)
-  judged_said folder budget status report (checks.refused w) =
+  judged_said folder budget cubes status report (checks.refused w) =
       absurd (uncaused q names misses misses_now faults faults_now c fs no_fault read unrefused w.refusal w.cause)
 
-  fail_said : (folder : List ℕ) (budget : ℕ) (status : Status) (report : List Delivery) (x : Question)
-      → Checks q seen told folder budget status report → Contains (questions_in q c) x
+  fail_said : (folder : List ℕ) (budget cubes : ℕ) (status : Status) (report : List Delivery) (x : Question)
+      → Checks q seen told folder budget cubes status report → Contains (questions_in q c) x
       → QuestionFails c fs (questions_in q c) x → comes_in_budget s.Failing status ≡ true
-  fail_said folder budget status report x (checks.judged w) there failing =
+  fail_said folder budget cubes status report x (checks.judged w) there failing =
       let P : Config → List (List ℕ) → Type 0 =
-      λ d gs. AreJudged d gs (questions_in q d) budget (questions_in q d) w.answers
+      λ d gs. AreJudged d gs (questions_in q d) budget cubes (questions_in q d) w.answers
       × (length w.answers ≡ length (questions_in q d)) × (status ≡ status_of (questions_in q d) w.answers) in
       let are : P c fs = moved q names P c w.config fs w.files read w.read (w.judged, w.all, w.status_is) in
       subst (λ z. comes_in_budget s.Failing z ≡ true) (sym are.2)
@@ -258,9 +259,9 @@ module _ (q : Request) (names : Names) (misses misses_now faults faults_now : �
       (is_verdict (questions_in q c) w.answers)
       (λ e. absurd (All-contains (IsClean c fs (questions_in q c)) (questions_in q c) x
       (All-from_recursion (IsClean c fs (questions_in q c)) (questions_in q c)
-      (passed_clean c fs (questions_in q c) budget (questions_in q c) w.answers are.0 are.1 e)) there failing))
+      (passed_clean c fs (questions_in q c) budget cubes (questions_in q c) w.answers are.0 are.1 e)) there failing))
       (λ e. refl) refl)
-  fail_said folder budget status report x (checks.refused w) there failing =
+  fail_said folder budget cubes status report x (checks.refused w) there failing =
       absurd (uncaused q names misses misses_now faults faults_now c fs no_fault read unrefused w.refusal w.cause)
 
 -- the same run, where its files are told
@@ -320,7 +321,7 @@ pass_comes r status a t c fs h clean =
     accepted_comes (comes_in_budget s.Passed) refl refl r t c fs status a h
     (λ names misses misses_now faults faults_now no_fault read unrefused found report said.
     pass_said t.request names misses misses_now faults faults_now no_fault c fs read unrefused t.wording t.folder
-    t.budget found report said clean)
+    t.budget t.cubes found report said clean)
 
 judged_comes : (r : Run) (status : Status) → Answers status r → (t : Task) (c : Config) (fs : List (List ℕ))
     → IsAccepted r t c fs → comes_judged status ≡ true
@@ -328,7 +329,7 @@ judged_comes r status a t c fs h =
     accepted_comes comes_judged refl refl r t c fs status a h
     (λ names misses misses_now faults faults_now no_fault read unrefused found report said.
     judged_said t.request names misses misses_now faults faults_now no_fault c fs read unrefused t.wording t.folder
-    t.budget found report said)
+    t.budget t.cubes found report said)
 
 fail_comes : (r : Run) (status : Status) → Answers status r → (t : Task) (c : Config) (fs : List (List ℕ))
     (x : Question) → IsAccepted r t c fs → Contains (questions_in t.request c) x
@@ -337,7 +338,7 @@ fail_comes r status a t c fs x h there failing =
     accepted_comes (comes_in_budget s.Failing) refl refl r t c fs status a h
     (λ names misses misses_now faults faults_now no_fault read unrefused found report said.
     fail_said t.request names misses misses_now faults faults_now no_fault c fs read unrefused t.wording t.folder
-    t.budget found report x said there failing)
+    t.budget t.cubes found report x said there failing)
 
 -- ---- the graph of a check
 

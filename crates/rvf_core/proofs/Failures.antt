@@ -96,20 +96,20 @@ refused_comes (refusal.Heavy n number) q seen status x name is there =
     (all_answered q x.refused.configured.bytes (names_in q x.config) x.refused.files) there)
 refused_comes refusal.Memory q seen status x name is there = absurd x
 
-checks_comes : (q : Request) (seen : Seen) (told : Wording) (folder : List ℕ) (budget : ℕ) (status : Status)
-    (report : List Delivery) (x : Checks q seen told folder budget status report) (name : List ℕ)
-    → Contains (checks_reads q seen told folder budget status report x) (Failed name)
+checks_comes : (q : Request) (seen : Seen) (told : Wording) (folder : List ℕ) (budget cubes : ℕ) (status : Status)
+    (report : List Delivery) (x : Checks q seen told folder budget cubes status report) (name : List ℕ)
+    → Contains (checks_reads q seen told folder budget cubes status report x) (Failed name)
     → comes s.ReadFault status ≡ true
-checks_comes q seen told folder budget status report (checks.judged x) name there =
+checks_comes q seen told folder budget cubes status report (checks.judged x) name there =
     absurd (none_failed (all_gave q x.read.configured.bytes (names_in q x.config) x.files) name
     (all_answered q x.read.configured.bytes (names_in q x.config) x.files) there)
-checks_comes q seen told folder budget status report (checks.refused x) name there =
+checks_comes q seen told folder budget cubes status report (checks.refused x) name there =
     refused_comes x.refusal q seen status x.cause name x.status_is there
 
 task_comes : (t : Task) (seen : Seen) (status : Status) (report : List Delivery) (x : Answered t seen status report)
     (name : List ℕ) → Contains (answered_reads t seen status report x) (Failed name) → comes s.ReadFault status ≡ true
 task_comes t seen status report x name there =
-    checks_comes t.request seen t.wording t.folder t.budget status report x name there
+    checks_comes t.request seen t.wording t.folder t.budget t.cubes status report x name there
 
 -- ---- names of checks
 
@@ -186,8 +186,8 @@ pub failure_comes : (asked : Option Words) (seen : Seen) (status : Status) (repo
     (x : Says asked seen status report) (name : List ℕ)
     → Contains (says_reads asked seen status report x) (Failed name) → comes s.ReadFault status ≡ true
 failure_comes None seen status report x name there = absurd (none_failed [] name tt there)
-failure_comes (Some (words.Run cfg outdir core basedir budget jobs)) seen status report x name there =
-    task_comes (run_task cfg outdir core basedir budget) seen status report x name there
+failure_comes (Some (words.Run cfg outdir core basedir budget jobs cubes)) seen status report x name there =
+    task_comes (run_task cfg outdir core basedir budget cubes) seen status report x name there
 failure_comes (Some (words.List cfg)) seen status report x name there =
     lists_comes cfg seen status report x name there
 failure_comes (Some (words.Lrat cnf proof)) seen status report x name there =

@@ -2,7 +2,6 @@
 use Rattle.std.proofs.Common.{◌≡◌, ℕ, List, [], Some, None, Result, Err, IfOk, refl, sym, ap, subst}
 use Rattle.fv_base.specs.Outside.{Names, SameFiles, Told}
 use Rattle.fv_text.specs.declared.memory.Memory.{Memory}
-use Rattle.bm_decide.specs.Searches.{TakesFewer}
 use Rattle.rvf_judge.specs.Sources.{JudgementsAreTheSources}
 use Rattle.rvf_words.specs.declared.line.Line.{Line as Words}
 use Rattle.rvf_words.specs.declared.line.Line.TheVariants as words
@@ -14,6 +13,7 @@ use Rattle.rvf_report.specs.Reports.{Concludes}
 use Rattle.rvf_report.specs.declared.status.Status.{Status}
 use Rattle.rvf_checks.specs.Checked.{plan_of}
 use Rattle.rvf_checks.specs.declared.wording.Wording.TheVariants as wording
+use Rattle.rvf_checks.specs.Known.{known_of}
 use Rattle.rvf_core.specs.Bench as bench
 use Rattle.rvf_core.specs.Checks as checks
 use Rattle.rvf_core.specs.Puts.{Puts}
@@ -41,12 +41,12 @@ module _ (size : ℕ) (asked : List (List ℕ)) (before now : Outside) (held : T
   held_is : held ≡ Some (bench.held_of size)
   held_is = told_same held (bench.held_of size) same
 
-  pub bench_case_ends : JudgementsAreTheSources TakesFewer → (case : Case) (status : Status)
+  pub bench_case_ends : JudgementsAreTheSources (known_of 0) → (case : Case) (status : Status)
       → IsCase bench.request held case → IsReady case
-      → Concludes (plan_of TakesFewer case (wording.Bench size) bench.folder bench.budget) status before now
+      → Concludes (plan_of (known_of 0) case (wording.Bench size) bench.folder bench.budget) status before now
       → Ends (Some line) the_run status
   bench_case_ends law case status is ready x =
-      ends_concluded law bench.request (Some (bench.held_of size)) (wording.Bench size) bench.folder bench.budget case
+      ends_concluded 0 law bench.request (Some (bench.held_of size)) (wording.Bench size) bench.folder bench.budget case
       (subst (λ h. IsCase bench.request h case) held_is is) ready (Some line) the_run
       (λ d files read. [])
       (λ told report w. record { misses = 0; misses_now = 0; checks = checks.judged w }) (λ report b. b)

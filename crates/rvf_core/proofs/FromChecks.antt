@@ -4,7 +4,6 @@ use Rattle.std.proofs.Common.{subst, arith}
 use Rattle.fv_base.specs.Outside.{Names, SameFiles, Told}
 use Rattle.fv_base.specs.declared.event.Event.{Event}
 use Rattle.fv_text.specs.declared.memory.Memory.{Memory}
-use Rattle.bm_decide.specs.Searches.{TakesFewer}
 use Rattle.rvf_judge.specs.Sources.{JudgementsAreTheSources}
 use Rattle.rvf_words.specs.declared.line.Line.{Line as Words}
 use Rattle.rvf_case.specs.Cases.{Alike, Comes, IsCase, IsCause, IsReady, Request, Seen, names_in}
@@ -16,6 +15,7 @@ use Rattle.rvf_case.proofs.Fronts.{read_on}
 use Rattle.rvf_report.specs.Outcome.{Outside}
 use Rattle.rvf_report.specs.Reports.{Concludes}
 use Rattle.rvf_checks.specs.Checked.{plan_of}
+use Rattle.rvf_checks.specs.Known.{known_of}
 use Rattle.rvf_report.specs.declared.status.Status.{Status}
 use Rattle.rvf_core.specs.Checks.{has_reads}
 use Rattle.rvf_core.specs.Checks as checks
@@ -86,15 +86,15 @@ module _ (t : Task) (asked : List (List ℕ)) (before middle now : Outside)
     out_faults = out_faults;
   }
 
-  pub case_ends : (line : Words) → task_of line ≡ Some t → JudgementsAreTheSources TakesFewer → (case : Case)
+  pub case_ends : (line : Words) → task_of line ≡ Some t → JudgementsAreTheSources (known_of t.cubes) → (case : Case)
       (status : Status) (is : IsCase q before.held case)
       → HeardMore before.heard middle.heard
       (λ events. events ≡ all_gave q is.configured.bytes (names_in q case.config) is.files)
       → now.heard ≡ middle.heard
-      → IsReady case → Concludes (plan_of TakesFewer case t.wording t.folder t.budget) status middle now
+      → IsReady case → Concludes (plan_of (known_of t.cubes) case t.wording t.folder t.budget) status middle now
       → Ends (Some line) the_run status
   case_ends line is_task law case status is heard same ready x =
-      ends_concluded law q before.held t.wording t.folder t.budget case is ready (Some line) the_run
+      ends_concluded t.cubes law q before.held t.wording t.folder t.budget case is ready (Some line) the_run
       (λ d fs h. has_reads q before.held d fs h)
       (λ told report w. (says_asked t (seen_in the_run) line told report is_task (checks.judged w)).0)
       (λ report b. (begins_asked t (seen_in the_run) line report is_task b).0)

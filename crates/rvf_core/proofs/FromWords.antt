@@ -204,7 +204,7 @@ misuse_ends asked before now made status same says put =
 
 none_on : (line : Option Words) → IsReadOn line []
 none_on None = refl
-none_on (Some (words.Run cfg outdir core basedir budget jobs)) = tt
+none_on (Some (words.Run cfg outdir core basedir budget jobs cubes)) = tt
 none_on (Some (words.List cfg)) = tt
 none_on (Some (words.Lrat cnf proof)) = tt
 none_on (Some (words.Bench size)) = refl
@@ -226,7 +226,7 @@ memory_ends line asked before = record {
 -- and nothing was written
 none_left : (line : Option Words) (r : Run) → r.now.written ≡ r.before.written → Leaves line r s.Memory
 none_left None r same = tt
-none_left (Some (words.Run cfg outdir core basedir budget jobs)) r same = tt
+none_left (Some (words.Run cfg outdir core basedir budget jobs cubes)) r same = tt
 none_left (Some (words.List cfg)) r same = tt
 none_left (Some (words.Lrat cnf proof)) r same = tt
 none_left (Some (words.Bench size)) r same = tt

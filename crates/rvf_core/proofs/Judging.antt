@@ -15,7 +15,6 @@ use Rattle.rvf_case.specs.Loading.{Loaded}
 use Rattle.rvf_judge.specs.Judged.{IsJudged}
 use Rattle.rvf_judge.specs.declared.judged.Judged.{Judged}
 use Rattle.rvf_judge.specs.Sources.{JudgementsAreTheSources}
-use Rattle.bm_decide.specs.Searches.{TakesFewer}
 use Rattle.ck_ask.specs.Questions.{question_kind}
 use Rattle.ck_ask.specs.declared.question.Question.{Question}
 use Rattle.rvf_case.specs.Cases.{AreLoaded, IsFit, loaded_for, text_among}
@@ -24,6 +23,7 @@ use Rattle.rvf_case.specs.declared.case.Case.{Case}
 use Rattle.rvf_case.specs.declared.case.LoadedText.{LoadedText}
 use Rattle.rvf_checks.specs.Answers.{AreAnswers, IsAnswer}
 use Rattle.rvf_checks.specs.Checked.{has_altops}
+use Rattle.rvf_checks.specs.Known.{known_of}
 use Rattle.rvf_core.specs.Verdicts.{AreJudged, HasAltops, IsNotedWhere, Judges, has_rows, opts_in, text_for, wants_in}
 
 -- ---- what is loaded of the text of a question
@@ -60,10 +60,11 @@ loaded_of case files q l loaded there =
 
 -- ---- the answers
 
-judges : JudgementsAreTheSources TakesFewer → (case : Case) (files : List (List ℕ)) (budget : ℕ) (q : Question)
-    (l : Loaded) (j : Judged) → AreLoaded case.config files case.questions case.texts → loaded_for case q ≡ Some l
-    → IsAnswer TakesFewer case budget q j → Judges case.config files case.questions budget q j
-judges law case files budget q l j loaded there answer =
+judges : (cubes : ℕ) → JudgementsAreTheSources (known_of cubes) → (case : Case) (files : List (List ℕ)) (budget : ℕ)
+    (q : Question) (l : Loaded) (j : Judged) → AreLoaded case.config files case.questions case.texts
+    → loaded_for case q ≡ Some l → IsAnswer (known_of cubes) case budget q j
+    → Judges case.config files case.questions budget cubes q j
+judges cubes law case files budget q l j loaded there answer =
     let c = case.config in
     let text = text_for c files case.questions (question_kind q) in
     let is : IsLoadedFrom text l = loaded_of case files q l loaded there in
@@ -73,7 +74,7 @@ judges law case files budget q l j loaded there answer =
       reading = is.reading;
       is = record { reads = is.writes.reads; accepted = is.writes.is_flat.unrefused };
       one = is.one;
-      judged = subst (λ (opts : Opts). IsJudged TakesFewer source c.nret wants q opts budget j) is.options
+      judged = subst (λ (opts : Opts). IsJudged (known_of cubes) source c.nret wants q opts budget j) is.options
           (law source is.flat c.nret wants q l.opts budget j is.writes.is_flat.drawn is.writes.is_flat.same
           (answer l there (flat_parts is.flat) wants is.loaded is.own));
     }
@@ -82,14 +83,15 @@ judges law case files budget q l j loaded there answer =
 abbrev pub AreThere : Case → List Question → Type 0
 AreThere case qs = AllByRecursion (λ q. (l : Loaded) × (loaded_for case q ≡ Some l) × IsFit case.config.nret q l) qs
 
-module _ (law : JudgementsAreTheSources TakesFewer) (case : Case) (files : List (List ℕ)) (budget : ℕ)
+module _ (cubes : ℕ) (law : JudgementsAreTheSources (known_of cubes)) (case : Case) (files : List (List ℕ)) (budget : ℕ)
     (loaded : AreLoaded case.config files case.questions case.texts) where
-  pub are_judged : (qs : List Question) (js : List Judged) → AreThere case qs → AreAnswers TakesFewer case budget qs js
-      → AreJudged case.config files case.questions budget qs js
+  pub are_judged : (qs : List Question) (js : List Judged) → AreThere case qs
+      → AreAnswers (known_of cubes) case budget qs js
+      → AreJudged case.config files case.questions budget cubes qs js
   are_judged qs [] there answers = tt
   are_judged [] (j ∷ js) there answers = absurd answers
   are_judged (q ∷ qs) (j ∷ js) there answers = (
-    judges law case files budget q there.0.0 j loaded there.0.1 answers.0,
+    judges cubes law case files budget q there.0.0 j loaded there.0.1 answers.0,
     are_judged qs js there.1 answers.1,
   )
 

@@ -195,7 +195,7 @@ module _ (names : Names) (misses misses_now faults faults_now : ℕ) (no_fault :
 
   same_told : (asked : Words) → IsOther asked → (status wanted : Status) (report other : List Delivery)
       → Says (Some asked) told_seen status report → Says (Some asked) told_seen wanted other → status ≡ wanted
-  same_told (words.Run cfg outdir core basedir budget jobs) is status wanted report other x y = absurd is
+  same_told (words.Run cfg outdir core basedir budget jobs cubes) is status wanted report other x y = absurd is
   same_told (words.List cfg) is status wanted report other x y = same_lists cfg status wanted report other x y
   same_told (words.Lrat cnf proof) is status wanted report other x y =
       same_certificates cnf proof status wanted report other x y

@@ -90,10 +90,10 @@ holds_or : (b : Bool) → (b ≡ false → ⊥) → b ≡ true
 holds_or true h = refl
 holds_or false h = absurd (h refl)
 
-pass_means : (c : Config) (files : List (List ℕ)) (budget : ℕ) (x : Check)
+pass_means : (c : Config) (files : List (List ℕ)) (budget cubes : ℕ) (x : Check)
     (texts : CertificateTexts)
-    → Judges c files (check_questions c) budget (question.Check x) (judged.Never texts) → PassMeans c files x
-pass_means c files budget x texts g =
+    → Judges c files (check_questions c) budget cubes (question.Check x) (judged.Never texts) → PassMeans c files x
+pass_means c files budget cubes x texts g =
     let wants = wants_in (text_of c files x.kind) g.reading in
     let opts = opts_in (text_of c files x.kind) g.reading in
     record {
@@ -187,23 +187,23 @@ module _ (name : List ℕ) (Meant : Type 0) where
   refused_other (refusal.Heavy n number) = refl
   refused_other refusal.Memory = refl
 
-  module _ (c : Config) (files : List (List ℕ)) (folder : List ℕ) (budget : ℕ)
+  module _ (c : Config) (files : List (List ℕ)) (folder : List ℕ) (budget cubes : ℕ)
       (meant : (x : Check) → Contains (checks_of c) x → x.name ≡ name → PassMeans c files x → Meant) where
     -- questions for these checks
     abbrev asked : List Check → List Question
     asked xs = map (λ x. question.Check x) xs
 
     of_check : (x : Check) (j : Judged) → Contains (checks_of c) x
-        → Judges c files (check_questions c) budget (question.Check x) j
+        → Judges c files (check_questions c) budget cubes (question.Check x) j
         → AllByRecursion IsMeant (deliveries_in wording.Run folder x.name budget j)
     of_check x j among g =
         delivered folder budget x.name j
         (λ texts is named. meant x among named
-        (pass_means c files budget x texts
-        (subst (λ k. Judges c files (check_questions c) budget (question.Check x) k) is g)))
+        (pass_means c files budget cubes x texts
+        (subst (λ k. Judges c files (check_questions c) budget cubes (question.Check x) k) is g)))
 
     answers_meant : (before xs : List Check) (js : List Judged) → checks_of c ≡ before ++ xs
-        → AreJudged c files (check_questions c) budget (asked xs) js
+        → AreJudged c files (check_questions c) budget cubes (asked xs) js
         → AllByRecursion IsMeant (answered wording.Run folder budget (asked xs) js)
     answers_meant before [] js e are = tt
     answers_meant before (x ∷ xs) [] e are = tt
@@ -215,14 +215,14 @@ module _ (name : List ℕ) (Meant : Type 0) where
         (e ∙ sym (append_assoc before (x ∷ []) xs)) are.1)
 
     begun_meant : (noted : Bool) (skips : List (List ℕ)) (js : List Judged)
-        → AreJudged c files (check_questions c) budget (check_questions c) js
+        → AreJudged c files (check_questions c) budget cubes (check_questions c) js
         → AllByRecursion IsMeant (begun wording.Run folder budget noted skips (check_questions c) js)
     begun_meant noted skips js are =
         both (head noted skips) (answered wording.Run folder budget (check_questions c) js) (head_meant noted skips)
         (answers_meant [] (checks_of c) js refl are)
 
     whole_meant : (noted : Bool) (skips : List (List ℕ)) (js : List Judged)
-        → AreJudged c files (check_questions c) budget (check_questions c) js
+        → AreJudged c files (check_questions c) budget cubes (check_questions c) js
         → AllByRecursion IsMeant (whole wording.Run folder budget noted skips (check_questions c) js)
     whole_meant noted skips js are =
         both (begun wording.Run folder budget noted skips (check_questions c) js)
@@ -231,12 +231,13 @@ module _ (name : List ℕ) (Meant : Type 0) where
 
 -- ---- reports
 
-module _ (cfg outdir core basedir : List ℕ) (budget jobs : ℕ) (seen : Seen) (events : List Event) (name : List ℕ) where
+module _ (cfg outdir core basedir : List ℕ) (budget jobs cubes : ℕ) (seen : Seen) (events : List Event)
+    (name : List ℕ) where
   abbrev q : Request
   q = request cfg core basedir
 
   abbrev asked_for : Option Words
-  asked_for = Some (words.Run cfg outdir core basedir budget jobs)
+  asked_for = Some (words.Run cfg outdir core basedir budget jobs cubes)
 
   abbrev Meant : Type 0
   Meant = HasPassed q seen.held events name
@@ -255,12 +256,13 @@ module _ (cfg outdir core basedir : List ℕ) (budget jobs : ℕ) (seen : Seen) 
     means = means;
   }
 
-  checks_meant : (status : Status) (report : List Delivery) (x : Checks q seen wording.Run outdir budget status report)
-      → events ≡ checks_reads q seen wording.Run outdir budget status report x
+  checks_meant : (status : Status) (report : List Delivery)
+      (x : Checks q seen wording.Run outdir budget cubes status report)
+      → events ≡ checks_reads q seen wording.Run outdir budget cubes status report x
       → AllByRecursion (IsMeant name Meant) report
   checks_meant status report (checks.judged w) heard =
       subst (λ l. AllByRecursion (IsMeant name Meant) l) (sym w.report_is)
-      (whole_meant name Meant w.config w.files outdir budget (passed w.config w.files w.read heard) w.noted
+      (whole_meant name Meant w.config w.files outdir budget cubes (passed w.config w.files w.read heard) w.noted
       w.config.skips w.answers w.judged)
   checks_meant status report (checks.refused w) heard =
       subst (λ l. AllByRecursion (IsMeant name Meant) l) (sym w.report_is)
@@ -271,7 +273,7 @@ module _ (cfg outdir core basedir : List ℕ) (budget jobs : ℕ) (seen : Seen) 
   report_meant report (run.whole status says) heard = checks_meant status report says heard
   report_meant report (run.begun w) heard =
       subst (λ l. AllByRecursion (IsMeant name Meant) l) (sym w.report_is)
-      (begun_meant name Meant w.config w.files outdir budget (passed w.config w.files w.read heard) w.noted
+      (begun_meant name Meant w.config w.files outdir budget cubes (passed w.config w.files w.read heard) w.noted
       w.config.skips w.answers w.judged)
   report_meant report (run.nothing e) heard = subst (λ l. AllByRecursion (IsMeant name Meant) l) (sym e) tt
 
@@ -286,8 +288,8 @@ module _ (cfg outdir core basedir : List ℕ) (budget jobs : ℕ) (seen : Seen) 
       (All-from_recursion (IsMeantPut name Meant) (puts_of done)
       (puts_meant name Meant done (front_meant name Meant done rest all))) there refl
 
-module _ (r : Run) (cfg outdir core basedir : List ℕ) (budget jobs : ℕ)
-    (asked : line_of r.words ≡ Some (words.Run cfg outdir core basedir budget jobs)) (reads puts : List Event)
+module _ (r : Run) (cfg outdir core basedir : List ℕ) (budget jobs cubes : ℕ)
+    (asked : line_of r.words ≡ Some (words.Run cfg outdir core basedir budget jobs cubes)) (reads puts : List Event)
     (heard : r.now.heard ≡ r.before.heard ++ reads) (put : r.now.taken ≡ r.before.taken ++ puts) (name : List ℕ)
     (there : Contains puts (Put (pass_line name))) where
   abbrev Told : Type 0
@@ -302,13 +304,13 @@ module _ (r : Run) (cfg outdir core basedir : List ℕ) (budget jobs : ℕ)
   told report done rest is more order pass =
       let hears : Hears (line_of r.words) (seen_in r) report is reads =
       subst (Hears (line_of r.words) (seen_in r) report is) (same_reads more.events more.behind) more.are in
-      let both : (is : IsReport (Some (words.Run cfg outdir core basedir budget jobs)) (seen_in r) report)
-      × Hears (Some (words.Run cfg outdir core basedir budget jobs)) (seen_in r) report is reads =
+      let both : (is : IsReport (Some (words.Run cfg outdir core basedir budget jobs cubes)) (seen_in r) report)
+      × Hears (Some (words.Run cfg outdir core basedir budget jobs cubes)) (seen_in r) report is reads =
       subst (λ line. (is : IsReport line (seen_in r) report) × Hears line (seen_in r) report is reads) asked
       (is, hears) in
       let same : puts ≡ puts_of done =
       append_cancel_left r.before.taken puts (puts_of done) (sym put ∙ pass.taken) in
-      found cfg outdir core basedir budget jobs (seen_in r) reads name report done rest both.0 both.1 order
+      found cfg outdir core basedir budget jobs cubes (seen_in r) reads name report done rest both.0 both.1 order
       (subst (λ l. Contains l (Put (pass_line name))) same there)
 
   reported : (status : Status) → Reports (line_of r.words) r status → Told
@@ -321,30 +323,30 @@ module _ (r : Run) (cfg outdir core basedir : List ℕ) (budget jobs : ℕ)
       }) (append-nil a.report) a.delivered.pass
 
 pub passes : PassesAreMeant
-passes s.Passed r cfg outdir core basedir budget jobs asked a reads puts heard put name there =
-    reported r cfg outdir core basedir budget jobs asked reads puts heard put name there s.Passed a
-passes s.Failing r cfg outdir core basedir budget jobs asked a reads puts heard put name there =
-    reported r cfg outdir core basedir budget jobs asked reads puts heard put name there s.Failing a
-passes s.Spent r cfg outdir core basedir budget jobs asked a reads puts heard put name there =
-    reported r cfg outdir core basedir budget jobs asked reads puts heard put name there s.Spent a
-passes s.Usage r cfg outdir core basedir budget jobs asked a reads puts heard put name there =
-    reported r cfg outdir core basedir budget jobs asked reads puts heard put name there s.Usage a
-passes s.Config r cfg outdir core basedir budget jobs asked a reads puts heard put name there =
-    reported r cfg outdir core basedir budget jobs asked reads puts heard put name there s.Config a
-passes s.Source r cfg outdir core basedir budget jobs asked a reads puts heard put name there =
-    reported r cfg outdir core basedir budget jobs asked reads puts heard put name there s.Source a
-passes s.Absent r cfg outdir core basedir budget jobs asked a reads puts heard put name there =
-    reported r cfg outdir core basedir budget jobs asked reads puts heard put name there s.Absent a
-passes s.ReadFault r cfg outdir core basedir budget jobs asked a reads puts heard put name there =
-    reported r cfg outdir core basedir budget jobs asked reads puts heard put name there s.ReadFault a
-passes s.Heavy r cfg outdir core basedir budget jobs asked a reads puts heard put name there =
-    reported r cfg outdir core basedir budget jobs asked reads puts heard put name there s.Heavy a
-passes s.Refused r cfg outdir core basedir budget jobs asked a reads puts heard put name there =
-    reported r cfg outdir core basedir budget jobs asked reads puts heard put name there s.Refused a
-passes s.WriteFault r cfg outdir core basedir budget jobs asked a reads puts heard put name there =
-    told r cfg outdir core basedir budget jobs asked reads puts heard put name there a.report a.fails.done
+passes s.Passed r cfg outdir core basedir budget jobs cubes asked a reads puts heard put name there =
+    reported r cfg outdir core basedir budget jobs cubes asked reads puts heard put name there s.Passed a
+passes s.Failing r cfg outdir core basedir budget jobs cubes asked a reads puts heard put name there =
+    reported r cfg outdir core basedir budget jobs cubes asked reads puts heard put name there s.Failing a
+passes s.Spent r cfg outdir core basedir budget jobs cubes asked a reads puts heard put name there =
+    reported r cfg outdir core basedir budget jobs cubes asked reads puts heard put name there s.Spent a
+passes s.Usage r cfg outdir core basedir budget jobs cubes asked a reads puts heard put name there =
+    reported r cfg outdir core basedir budget jobs cubes asked reads puts heard put name there s.Usage a
+passes s.Config r cfg outdir core basedir budget jobs cubes asked a reads puts heard put name there =
+    reported r cfg outdir core basedir budget jobs cubes asked reads puts heard put name there s.Config a
+passes s.Source r cfg outdir core basedir budget jobs cubes asked a reads puts heard put name there =
+    reported r cfg outdir core basedir budget jobs cubes asked reads puts heard put name there s.Source a
+passes s.Absent r cfg outdir core basedir budget jobs cubes asked a reads puts heard put name there =
+    reported r cfg outdir core basedir budget jobs cubes asked reads puts heard put name there s.Absent a
+passes s.ReadFault r cfg outdir core basedir budget jobs cubes asked a reads puts heard put name there =
+    reported r cfg outdir core basedir budget jobs cubes asked reads puts heard put name there s.ReadFault a
+passes s.Heavy r cfg outdir core basedir budget jobs cubes asked a reads puts heard put name there =
+    reported r cfg outdir core basedir budget jobs cubes asked reads puts heard put name there s.Heavy a
+passes s.Refused r cfg outdir core basedir budget jobs cubes asked a reads puts heard put name there =
+    reported r cfg outdir core basedir budget jobs cubes asked reads puts heard put name there s.Refused a
+passes s.WriteFault r cfg outdir core basedir budget jobs cubes asked a reads puts heard put name there =
+    told r cfg outdir core basedir budget jobs cubes asked reads puts heard put name there a.report a.fails.done
     (a.fails.failing ∷ a.fails.rest) a.is a.heard a.fails.order
     (part_pass r.before r.now a.fails.done a.fails.failing a.fails.part)
-passes s.Memory r cfg outdir core basedir budget jobs asked a reads puts heard put name there =
-    told r cfg outdir core basedir budget jobs asked reads puts heard put name there a.report a.stops.done
+passes s.Memory r cfg outdir core basedir budget jobs cubes asked a reads puts heard put name there =
+    told r cfg outdir core basedir budget jobs cubes asked reads puts heard put name there a.report a.stops.done
     a.stops.rest a.is a.heard a.stops.order a.stops.delivered.pass

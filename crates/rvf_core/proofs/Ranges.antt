@@ -10,8 +10,8 @@ use Rattle.fv_lines.specs.Numbers.{at_most, natural_of, number_up_to}
 use Rattle.rvf_words.specs.declared.line.Line.{Line}
 use Rattle.rvf_words.specs.declared.line.Line.TheVariants as line
 use Rattle.rvf_words.specs.declared.line.Options.{Options}
-use Rattle.rvf_words.specs.Line.{asked, bench_line, budget_of, count_of, cover_line, jobs_of, line_of, list_line}
-use Rattle.rvf_words.specs.Line.{fromaig_line, lrat_line, options_in, run_line, size_of, toaig_line, zb_line}
+use Rattle.rvf_words.specs.Line.{asked, bench_line, budget_of, count_of, cover_line, cubes_of, jobs_of, line_of}
+use Rattle.rvf_words.specs.Line.{fromaig_line, list_line, lrat_line, options_in, run_line, size_of, toaig_line, zb_line}
 use Rattle.rvf_words.specs.Table.{program}
 use Rattle.rvf_core.specs.Run.{IsLine}
 
@@ -71,6 +71,18 @@ counted most digits =
     (if_then (λ n. n ≤ most) (IsCount most) (λ n. if nat_le 1 n then Some n else None) (number_up_to most digits)
     (at_most_below most (natural_of digits)) (λ n le. from_one most n (nat_le 1 n) le refl))
 
+-- where none is a number too
+kept_most : (most n : ℕ) (is : Bool) → n ≤ most → IfSome (if is then Some n else None) (λ m. m ≤ most)
+kept_most most n true le = le
+kept_most most n false le = tt
+
+counted_up : (most : ℕ) (digits : List ℕ) → IfSome (count_of 0 most digits) (λ m. m ≤ most)
+counted_up most digits =
+    if_kept (λ m. m ≤ most) (nat_le (length digits) 10)
+    (option_and_then (λ n. if nat_le 0 n then Some n else None) (number_up_to most digits))
+    (if_then (λ n. n ≤ most) (λ m. m ≤ most) (λ n. if nat_le 0 n then Some n else None) (number_up_to most digits)
+    (at_most_below most (natural_of digits)) (λ n le. kept_most most n (nat_le 0 n) le))
+
 -- ---- lines
 
 -- the numbers of options are in their ranges
@@ -99,8 +111,11 @@ options_in_range rows =
 
 run_in_range : (rows : List Row) → IfSome (run_line rows) IsLine
 run_in_range rows =
-    if_mapped AreInRange IsLine (λ o. line.Run o.cfg o.outdir o.core o.basedir o.budget o.jobs) (options_in rows)
-    (options_in_range rows) (λ o is. is)
+    if_then AreInRange IsLine _ (options_in rows) (options_in_range rows) (λ o is.
+    if_mapped (λ n. n ≤ 6) IsLine (λ cubes. line.Run o.cfg o.outdir o.core o.basedir o.budget o.jobs cubes)
+    (option_and_then cubes_of (first_of (codes "cubes") rows))
+    (if_next (λ n. n ≤ 6) cubes_of (first_of (codes "cubes") rows) (counted_up 6))
+    (λ cubes few. (is.0, is.1, is.2, few)))
 
 list_in_range : (rows : List Row) → IfSome (list_line rows) IsLine
 list_in_range rows =

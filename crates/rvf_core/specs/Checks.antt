@@ -33,27 +33,27 @@ has_reads q held c files read = all_gave q read.configured.bytes (names_in q c) 
 -- ---- reports
 
 -- no text is refused, the first questions are answered, and this is the report as far as they go
-pub record IsBegun (q : Request) (held : Told) (words : Wording) (folder : List ℕ) (budget : ℕ)
+pub record IsBegun (q : Request) (held : Told) (words : Wording) (folder : List ℕ) (budget cubes : ℕ)
     (report : List Delivery) : Type 0 where
   pub config : Config
   pub files : List (List ℕ)
   pub read : HasRead q held config files
   pub unrefused : AreUnrefused config files (questions_in q config) (leaders config (questions_in q config))
   pub answers : List Judged
-  pub judged : AreJudged config files (questions_in q config) budget (questions_in q config) answers
+  pub judged : AreJudged config files (questions_in q config) budget cubes (questions_in q config) answers
   pub noted : Bool
   pub is_noted : IsNoted config files (questions_in q config) noted
   pub report_is : report ≡ begun words folder budget noted config.skips (questions_in q config) answers
 
 -- no text is refused, all questions are answered, the status is theirs, and this is the whole report
-pub record IsWhole (q : Request) (held : Told) (words : Wording) (folder : List ℕ) (budget : ℕ) (status : Status)
+pub record IsWhole (q : Request) (held : Told) (words : Wording) (folder : List ℕ) (budget cubes : ℕ) (status : Status)
     (report : List Delivery) : Type 0 where
   pub config : Config
   pub files : List (List ℕ)
   pub read : HasRead q held config files
   pub unrefused : AreUnrefused config files (questions_in q config) (leaders config (questions_in q config))
   pub answers : List Judged
-  pub judged : AreJudged config files (questions_in q config) budget (questions_in q config) answers
+  pub judged : AreJudged config files (questions_in q config) budget cubes (questions_in q config) answers
   pub all : length answers ≡ length (questions_in q config)
   pub noted : Bool
   pub is_noted : IsNoted config files (questions_in q config) noted
@@ -79,13 +79,14 @@ pub record IsRefusal (q : Request) (seen : Seen) (status : Status) (report : Lis
   pub status_is : status ≡ refused_status refusal
   pub report_is : report ≡ Line (refusal_line refusal) ∷ []
 
-pub data Checks (q : Request) (seen : Seen) (words : Wording) (folder : List ℕ) (budget : ℕ) (status : Status)
+pub data Checks (q : Request) (seen : Seen) (words : Wording) (folder : List ℕ) (budget cubes : ℕ) (status : Status)
     (report : List Delivery) : Type 0 where
-  judged : IsWhole q seen.held words folder budget status report → Checks q seen words folder budget status report
-  refused : IsRefusal q seen status report → Checks q seen words folder budget status report
+  judged : IsWhole q seen.held words folder budget cubes status report
+      → Checks q seen words folder budget cubes status report
+  refused : IsRefusal q seen status report → Checks q seen words folder budget cubes status report
 
 -- what was read for it
-abbrev pub checks_reads : (q : Request) (seen : Seen) (words : Wording) (folder : List ℕ) (budget : ℕ)
-    (status : Status) (report : List Delivery) → Checks q seen words folder budget status report → List Event
-checks_reads q seen words folder budget status report (judged h) = has_reads q seen.held h.config h.files h.read
-checks_reads q seen words folder budget status report (refused h) = cause_reads q seen h.refusal h.cause
+abbrev pub checks_reads : (q : Request) (seen : Seen) (words : Wording) (folder : List ℕ) (budget cubes : ℕ)
+    (status : Status) (report : List Delivery) → Checks q seen words folder budget cubes status report → List Event
+checks_reads q seen words folder budget cubes status report (judged h) = has_reads q seen.held h.config h.files h.read
+checks_reads q seen words folder budget cubes status report (refused h) = cause_reads q seen h.refusal h.cause

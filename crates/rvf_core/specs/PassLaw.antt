@@ -15,8 +15,8 @@ use Rattle.rvf_core.specs.Tasks.{request}
 -- under the words `run CFG OUTDIR` with their options, a line `pass NAME` that was put is of a check that passes
 abbrev pub PassesAreMeant : Type 0
 PassesAreMeant =
-    (status : Status) (r : Run) (cfg outdir core basedir : List ℕ) (budget jobs : ℕ)
-    → line_of r.words ≡ Some (words.Run cfg outdir core basedir budget jobs) → Answers status r
+    (status : Status) (r : Run) (cfg outdir core basedir : List ℕ) (budget jobs cubes : ℕ)
+    → line_of r.words ≡ Some (words.Run cfg outdir core basedir budget jobs cubes) → Answers status r
     → (reads puts : List Event) → r.now.heard ≡ r.before.heard ++ reads → r.now.taken ≡ r.before.taken ++ puts
     → (name : List ℕ) → Contains puts (Put (pass_line name))
     → HasPassed (request cfg core basedir) r.before.held reads name

@@ -58,7 +58,7 @@ seen_in r = record {
 
 -- the numbers of a line are in their ranges
 abbrev pub IsLine : Words → Type 0
-IsLine (words.Run cfg outdir core basedir budget jobs) = (0 < budget) × (1 ≤ jobs) × (jobs ≤ 64)
+IsLine (words.Run cfg outdir core basedir budget jobs cubes) = (0 < budget) × (1 ≤ jobs) × (jobs ≤ 64) × (cubes ≤ 6)
 IsLine (words.Cover o) = (0 < o.budget) × (1 ≤ o.jobs) × (o.jobs ≤ 64)
 IsLine (words.Zb o) = (0 < o.budget) × (1 ≤ o.jobs) × (o.jobs ≤ 64)
 IsLine line = Unit {0}
@@ -70,7 +70,7 @@ options_text = codes "CFG OUTDIR [--core NAME] [--basedir DIR] [--budget N] [--j
 abbrev pub usage_line : List ℕ
 usage_line =
     codes "usage: rvf run " ++ (options_text
-    ++ (codes " | list CFG | lrat CNF PROOF | bench N | cover " ++ (options_text
+    ++ (codes " [--cubes N] | list CFG | lrat CNF PROOF | bench N | cover " ++ (options_text
     ++ (codes " | zb " ++ (options_text
     ++ codes " | toaig CFG CHECK FILE [--core NAME] [--basedir DIR] | fromaig AAG CNF\n")))))
 
@@ -81,11 +81,11 @@ pub record Misuses (status : Status) (report : List Delivery) : Type 0 where
 
 -- a status has its cause where this is asked for, and this is its report
 abbrev pub Answered : Task → Seen → Status → List Delivery → Type 0
-Answered t seen status report = Checks t.request seen t.wording t.folder t.budget status report
+Answered t seen status report = Checks t.request seen t.wording t.folder t.budget t.cubes status report
 
 -- a report on it of which not all is known yet: the questions are answered one by one
 abbrev pub AnswersBegin : Task → Told → List Delivery → Type 0
-AnswersBegin t held report = IsBegun t.request held t.wording t.folder t.budget report
+AnswersBegin t held report = IsBegun t.request held t.wording t.folder t.budget t.cubes report
 
 -- a status has its cause where `bench` asks for the checks of the design that it makes, and this is its report
 pub record Benches (size : ℕ) (status : Status) (report : List Delivery) : Type 0 where
@@ -134,7 +134,8 @@ pub data IsReport (asked : Option Words) (seen : Seen) (report : List Delivery) 
 -- what a status and its report speak of where questions of a configuration are asked
 abbrev pub answered_reads : (t : Task) (seen : Seen) (status : Status) (report : List Delivery)
     → Answered t seen status report → List Event
-answered_reads t seen status report says = checks_reads t.request seen t.wording t.folder t.budget status report says
+answered_reads t seen status report says =
+    checks_reads t.request seen t.wording t.folder t.budget t.cubes status report says
 
 -- and what a report speaks of that has begun
 abbrev pub begun_reads : (t : Task) (held : Told) (report : List Delivery) → AnswersBegin t held report → List Event
@@ -264,7 +265,7 @@ pub data IsAccepted (r : Run) (t : Task) (c : Config) (files : List (List ℕ)) 
 -- the words ask for names of checks, for the check of a certificate or for the clauses of a graph, the files are told,
 -- and no read or write failed
 abbrev pub IsOther : Words → Type 0
-IsOther (words.Run cfg outdir core basedir budget jobs) = ⊥
+IsOther (words.Run cfg outdir core basedir budget jobs cubes) = ⊥
 IsOther (words.Bench size) = ⊥
 IsOther (words.Cover o) = ⊥
 IsOther (words.Zb o) = ⊥

@@ -18,15 +18,22 @@ pub record Task : Type 0 where
   pub folder : List ℕ
   -- how many clauses each question may derive
   pub budget : ℕ
+  -- how many variables its clauses are split by
+  pub cubes : ℕ
 
 -- the checks of a configuration are asked for
 abbrev pub request : List ℕ → List ℕ → List ℕ → Request
 request cfg core basedir = record { cfg = cfg; core = core; basedir = basedir; asking = asking.Checks }
 
 -- `run` asks for them
-abbrev pub run_task : List ℕ → List ℕ → List ℕ → List ℕ → ℕ → Task
-run_task cfg outdir core basedir budget =
-    record { request = request cfg core basedir; wording = wording.Run; folder = outdir; budget = budget }
+abbrev pub run_task : List ℕ → List ℕ → List ℕ → List ℕ → ℕ → ℕ → Task
+run_task cfg outdir core basedir budget cubes = record {
+  request = request cfg core basedir;
+  wording = wording.Run;
+  folder = outdir;
+  budget = budget;
+  cubes = cubes;
+}
 
 -- other questions, with the operands and options of words
 abbrev pub task_with : Asking → Wording → Options → Task
@@ -35,6 +42,7 @@ task_with asked told o = record {
   wording = told;
   folder = o.outdir;
   budget = o.budget;
+  cubes = 0;
 }
 
 -- `cover` asks for the targets
@@ -47,7 +55,7 @@ zb_task o = task_with asking.Zb wording.Zb o
 
 -- what a line asks for of files that are given
 abbrev pub task_of : Words → Option Task
-task_of (words.Run cfg outdir core basedir budget jobs) = Some (run_task cfg outdir core basedir budget)
+task_of (words.Run cfg outdir core basedir budget jobs cubes) = Some (run_task cfg outdir core basedir budget cubes)
 task_of (words.Cover o) = Some (cover_task o)
 task_of (words.Zb o) = Some (zb_task o)
 task_of line = None
@@ -58,5 +66,10 @@ task_asked (Some line) = task_of line
 
 -- `bench` asks for the checks of the design that it makes
 abbrev pub bench_task : ℕ → Task
-bench_task size =
-    record { request = bench.request; wording = wording.Bench size; folder = bench.folder; budget = bench.budget }
+bench_task size = record {
+  request = bench.request;
+  wording = wording.Bench size;
+  folder = bench.folder;
+  budget = bench.budget;
+  cubes = 0;
+}

@@ -19,12 +19,12 @@ use Rattle.ck_ask.specs.declared.question.Question.TheVariants as question
 use Rattle.ck_design.specs.Findings.{IsFound}
 use Rattle.ck_design.specs.Retirements.{IsViolating}
 use Rattle.vl_text.specs.SourceText.{Reading}
-use Rattle.bm_decide.specs.Searches.{TakesFewer}
 use Rattle.rvf_case.specs.Loads.{Asked, Reads, design_of, opts_of, wants_of, top}
 use Rattle.rvf_graph.specs.GraphTexts.{TellsRuns}
 use Rattle.rvf_graph.specs.declared.text.GraphText.{GraphText}
 use Rattle.rvf_judge.specs.Judged.{IsJudged}
 use Rattle.rvf_judge.specs.declared.judged.Judged.{Judged}
+use Rattle.rvf_checks.specs.Known.{known_of}
 use Rattle.rvf_case.specs.Texts.{asked_for, leader_of}
 
 -- the text of a kind where these questions are asked, with what is asked of it
@@ -84,14 +84,14 @@ QuestionFails c files qs (question.Target t) = IsUnmet t.row (IsGiven c files qs
 QuestionFails c files qs (question.Zb z) = IsGiven c files qs (question.Zb z)
 
 -- What a question comes to is said of the design of its text: where these questions are asked, within a budget of
--- learnt clauses. Steps that refute take fewer clauses than the budget.
-pub record Judges (c : Config) (files : List (List ℕ)) (qs : List Question) (budget : ℕ) (q : Question) (j : Judged)
-    : Type 0 where
+-- learnt clauses, and its clauses are split by so many variables.
+pub record Judges (c : Config) (files : List (List ℕ)) (qs : List Question) (budget cubes : ℕ) (q : Question)
+    (j : Judged) : Type 0 where
   pub reading : Reading
   pub is : IsReading (text_for c files qs (question_kind q)) reading
   -- and the text has no other reading
   pub one : (other : Reading) → Reads (text_for c files qs (question_kind q)) other → other ≡ reading
-  pub judged : IsJudged TakesFewer (design_of reading.tree.modules) c.nret
+  pub judged : IsJudged (known_of cubes) (design_of reading.tree.modules) c.nret
       (wants_in (text_for c files qs (question_kind q)) reading) q
       (opts_in (text_for c files qs (question_kind q)) reading) budget j
 
@@ -106,10 +106,11 @@ pub record Tells (c : Config) (files : List (List ℕ)) (qs : List Question) (q 
       (opts_in (text_for c files qs (question_kind q)) reading) t
 
 -- of the first of some questions, as many as there are answers
-abbrev pub AreJudged : Config → List (List ℕ) → List Question → ℕ → List Question → List Judged → Type 0
-AreJudged c files qs budget xs [] = Unit {0}
-AreJudged c files qs budget [] (j ∷ js) = ⊥
-AreJudged c files qs budget (x ∷ xs) (j ∷ js) = Judges c files qs budget x j × AreJudged c files qs budget xs js
+abbrev pub AreJudged : Config → List (List ℕ) → List Question → ℕ → ℕ → List Question → List Judged → Type 0
+AreJudged c files qs budget cubes xs [] = Unit {0}
+AreJudged c files qs budget cubes [] (j ∷ js) = ⊥
+AreJudged c files qs budget cubes (x ∷ xs) (j ∷ js) =
+    Judges c files qs budget cubes x j × AreJudged c files qs budget cubes xs js
 
 -- ---- the note of other arithmetic operations
 

@@ -13,6 +13,7 @@ task_seen w = record {
   wording = w.wording;
   folder = w.outdir.now;
   budget = w.budget;
+  cubes = w.cubes;
 }
 
 -- the line that asks for the graph of a check, as a call was given it

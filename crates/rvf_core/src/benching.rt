@@ -12,11 +12,10 @@ use crate::bench_files::bench_files;
 use crate::refusing::refused;
 use crate::reporting::put_report;
 use crate::terms::{Terms, judged};
-use bm_decide::Plain;
 use fv_base::{Files, Out, SureFiles};
 use fv_text::Memory;
 use rvf_case::{Asking, Request, prepare};
-use rvf_checks::Wording;
+use rvf_checks::{Splitting, Wording};
 use rvf_jobs::Gate;
 use rvf_judge::sources_law::judgements_are_the_sources;
 use rvf_report::Status;
@@ -69,7 +68,6 @@ fn benched<R: Threads + Sync, F: Files, O: Out, G: Gate>(
     ensures counts { HasCounts result
         (outside (F.state files.old) (O.state out.old)) (outside (F.state files.new) (O.state out.new)) }
 {
-    judgements_are_the_sources(&Plain);
     let mut own = own;
     let request = Request {
         cfg: b"checks.cfg",
@@ -81,10 +79,15 @@ fn benched<R: Threads + Sync, F: Files, O: Out, G: Gate>(
         wording: Wording::Bench(size),
         folder: b"bench",
         budget: BUDGET,
-        jobs: 1,
+        search: Splitting {
+            rt,
+            cubes: 0,
+            jobs: 1,
+        },
     };
+    judgements_are_the_sources(&terms.search);
     match prepare(alloc, request, &mut own) {
-        Ok(case) => judged(rt, alloc, &case, &terms, gate, files, out),
+        Ok(case) => judged(alloc, &case, &terms, gate, files, out),
         Err(refusal) => put_report(alloc, refused(alloc, &refusal), files, out),
     }
 }

@@ -12,9 +12,9 @@ use crate::refusing::refused;
 use crate::reporting::put_report;
 use crate::terms::{Terms, judged};
 use crate::work::Work;
-use bm_decide::Plain;
 use fv_base::{Files, Out};
 use rvf_case::{Request, prepare};
+use rvf_checks::Splitting;
 use rvf_jobs::Gate;
 use rvf_judge::sources_law::judgements_are_the_sources;
 use rvf_report::Status;
@@ -33,6 +33,7 @@ pub(crate) fn check<R: Threads + Sync, F: Files, O: Out, G: Gate>(
 ) -> Status
     requires budget { 0 < work.now.budget }
     requires jobs { 1 ≤ work.now.jobs × work.now.jobs ≤ 64 }
+    requires cubes { work.now.cubes ≤ 6 }
     ensures ends { (line : Words) → task_of line ≡ Some (task_seen work.now) → (asked : List (List ℕ))
         → Ends (Some line) (record {
           words = asked;
@@ -47,7 +48,6 @@ pub(crate) fn check<R: Threads + Sync, F: Files, O: Out, G: Gate>(
     ensures counts { HasCounts result
         (outside (F.state files.old) (O.state out.old)) (outside (F.state files.new) (O.state out.new)) }
 {
-    judgements_are_the_sources(&Plain);
     let request = Request {
         cfg: work.cfg,
         core: work.core,
@@ -58,10 +58,15 @@ pub(crate) fn check<R: Threads + Sync, F: Files, O: Out, G: Gate>(
         wording: work.wording,
         folder: work.outdir,
         budget: work.budget,
-        jobs: work.jobs,
+        search: Splitting {
+            rt,
+            cubes: work.cubes,
+            jobs: work.jobs,
+        },
     };
+    judgements_are_the_sources(&terms.search);
     match prepare(alloc, request, files) {
-        Ok(case) => judged(rt, alloc, &case, &terms, gate, files, out),
+        Ok(case) => judged(alloc, &case, &terms, gate, files, out),
         Err(refusal) => put_report(alloc, refused(alloc, &refusal), files, out),
     }
 }

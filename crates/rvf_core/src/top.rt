@@ -29,7 +29,7 @@ use std::thread::Threads;
 
 /// The line that is put where the words aren't understood.
 const USAGE: &[u8] =
-    b"usage: rvf run CFG OUTDIR [--core NAME] [--basedir DIR] [--budget N] [--jobs N] \
+    b"usage: rvf run CFG OUTDIR [--core NAME] [--basedir DIR] [--budget N] [--jobs N] [--cubes N] \
 | list CFG | lrat CNF PROOF | bench N \
 | cover CFG OUTDIR [--core NAME] [--basedir DIR] [--budget N] [--jobs N] \
 | zb CFG OUTDIR [--core NAME] [--basedir DIR] [--budget N] [--jobs N] \
@@ -39,7 +39,8 @@ const USAGE: &[u8] =
 ///
 /// `words` are the words behind the program's name. `run CFG OUTDIR` judges the checks of a configuration. Each pass
 /// and each spent budget comes behind the files `OUTDIR/NAME.cnf` and `OUTDIR/NAME.lrat`, clauses with notes and
-/// steps over them, each fail behind `OUTDIR/NAME.vcd`, the trace of a run that violates the check. `list CFG` puts
+/// steps over them, each fail behind `OUTDIR/NAME.vcd`, the trace of a run that violates the check. With `--cubes N`
+/// the clauses of each check are split by N variables, and their cubes searched beside each other. `list CFG` puts
 /// the names of the checks. `lrat CNF PROOF` checks that the steps of a proof refute the clauses of a file. `bench N`
 /// judges the checks of a design with N registers that it makes, and puts how many came to what. `cover CFG OUTDIR`
 /// says of each target of the configuration's checks whether a run reaches it, behind the trace of one, or behind
@@ -160,6 +161,7 @@ fn done<R: Threads + Sync, F: Files, O: Out, G: Gate>(
             basedir,
             budget,
             jobs,
+            cubes,
         } => {
             let work = Work {
                 cfg: cfg.bytes(),
@@ -170,6 +172,7 @@ fn done<R: Threads + Sync, F: Files, O: Out, G: Gate>(
                 outdir: outdir.bytes(),
                 budget: *budget,
                 jobs: *jobs,
+                cubes: *cubes,
             };
             check(rt, alloc, &work, gate, files, out)
         }

@@ -24,8 +24,10 @@ pub(crate) struct Work<'a> {
     pub(crate) outdir: &'a [u8],
     /// How many clauses a search may learn, from 1 on.
     pub(crate) budget: u64,
-    /// How many questions are answered beside each other, from 1 to 64.
+    /// How many questions are answered beside each other, from 1 to 64; or how many cubes of one question.
     pub(crate) jobs: u32,
+    /// How many variables the clauses of a question are split by, from 0 to 6. With 0 they aren't split.
+    pub(crate) cubes: u32,
 }
 
 impl<'a> Work<'a> {
@@ -34,6 +36,7 @@ impl<'a> Work<'a> {
         ensures task { task_seen result ≡ tasks.task_with (asking_seen asking.entry) wording options.now }
         ensures budget { result.budget ≡ options.now.budget }
         ensures jobs { result.jobs ≡ options.now.jobs }
+        ensures cubes { result.cubes ≡ 0 }
     {
         Work {
             cfg: options.cfg.bytes(),
@@ -44,6 +47,7 @@ impl<'a> Work<'a> {
             outdir: options.outdir.bytes(),
             budget: options.budget,
             jobs: options.jobs,
+            cubes: 0,
         }
     }
 }

@@ -23,6 +23,9 @@ budget_of digits = count_of 1 1000000000 digits
 abbrev pub jobs_of : Text → Option ℕ
 jobs_of digits = count_of 1 64 digits
 
+abbrev pub cubes_of : Text → Option ℕ
+cubes_of digits = count_of 0 6 digits
+
 abbrev pub size_of : Text → Option ℕ
 size_of digits = count_of 2 32 digits
 
@@ -43,7 +46,9 @@ options_in rows =
     (first_of (codes "cfg") rows)
 
 abbrev pub run_line : List Row → Option Line
-run_line rows = option_map (λ o. Run o.cfg o.outdir o.core o.basedir o.budget o.jobs) (options_in rows)
+run_line rows =
+    option_and_then (λ o. option_map (λ cubes. Run o.cfg o.outdir o.core o.basedir o.budget o.jobs cubes)
+    (option_and_then cubes_of (first_of (codes "cubes") rows))) (options_in rows)
 
 abbrev pub list_line : List Row → Option Line
 list_line rows = option_map (λ cfg. Listed cfg) (first_of (codes "cfg") rows)

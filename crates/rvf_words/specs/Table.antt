@@ -19,9 +19,9 @@ with_options app =
     (choice (codes "core") (codes "core"))) (choice (codes "basedir") (codes ".")))
     (choice (codes "budget") (codes "200000"))) (choice (codes "jobs") (codes "1"))
 
--- `run` with these
+-- `run` with these, and `[--cubes N]` behind them
 abbrev pub run : App
-run = with_options (new_app (codes "run"))
+run = with_rule (with_options (new_app (codes "run"))) (choice (codes "cubes") (codes "0"))
 
 -- `list CFG`
 abbrev pub list : App
@@ -35,11 +35,11 @@ lrat = with_rule (with_rule (new_app (codes "lrat")) (operand (codes "cnf"))) (o
 abbrev pub bench : App
 bench = with_rule (new_app (codes "bench")) (operand (codes "size"))
 
--- `cover` with the options of `run`
+-- `cover` with them alone
 abbrev pub cover : App
 cover = with_options (new_app (codes "cover"))
 
--- `zb` with these
+-- `zb` with them alone
 abbrev pub zb : App
 zb = with_options (new_app (codes "zb"))
 

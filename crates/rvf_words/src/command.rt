@@ -51,7 +51,8 @@ fn run<'a>(alloc: Global) -> Result<Command<'a>, Memory>
     ensures shape { IfOk result (λ made. app_of made ≡ table.run) }
     ensures plain { IfOk result (λ made. (fields_of made).has_globals ≡ false) }
 {
-    with_options(alloc, Command::new(alloc, "run"))
+    let options = with_options(alloc, Command::new(alloc, "run"))?;
+    with(options, choice(alloc, "cubes", "0"))
 }
 
 fn list<'a>(alloc: Global) -> Result<Command<'a>, Memory>

@@ -15,8 +15,10 @@ pub enum Line {
         basedir: Text,
         /// How many clauses each check may derive, from 1 to 1,000,000,000.
         budget: u64,
-        /// How many checks are judged beside each other, from 1 to 64.
+        /// How many checks are judged beside each other, from 1 to 64; with `cubes` above 0 how many cubes of a check.
         jobs: u32,
+        /// How many variables each check's clauses are split by, from 0 to 6. With 0 they aren't split.
+        cubes: u32,
     },
     /// `list CFG`: the names of the checks of a configuration.
     List {

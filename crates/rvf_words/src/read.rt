@@ -18,6 +18,9 @@ const MOST_CLAUSES: u64 = 1_000_000_000;
 /// The most checks that may be judged beside each other.
 const MOST_JOBS: u64 = 64;
 
+/// The most variables that a check's clauses may be split by.
+const MOST_CUBES: u64 = 6;
+
 /// The fewest and the most words of the design of `bench`.
 const FEWEST_WORDS: u64 = 2;
 
@@ -81,6 +84,16 @@ fn jobs_of(digits: &str) -> Option<u32>
     }
 }
 
+/// The number in the range of split variables.
+fn cubes_of(digits: &str) -> Option<u32>
+    ensures { result ≡ line.cubes_of digits.now }
+{
+    match count_of(digits, 0, MOST_CUBES) {
+        Some(cubes) => Some(cubes as u32),
+        None => None,
+    }
+}
+
 /// The number in the range of words of the design of `bench`.
 fn size_of(digits: &str) -> Option<u32>
     ensures { result ≡ line.size_of digits.now }
@@ -135,6 +148,12 @@ fn run_line(alloc: Global, matches: &ArgMatches<'_>) -> Result<Option<Line>, Mem
     let Some(options) = options_of(alloc, matches)? else {
         return Ok(None)
     };
+    let Some(digits) = value_of(matches, "cubes") else {
+        return Ok(None)
+    };
+    let Some(cubes) = cubes_of(digits) else {
+        return Ok(None)
+    };
     Ok(Some(Line::Run {
         cfg: options.cfg,
         outdir: options.outdir,
@@ -142,6 +161,7 @@ fn run_line(alloc: Global, matches: &ArgMatches<'_>) -> Result<Option<Line>, Mem
         basedir: options.basedir,
         budget: options.budget,
         jobs: options.jobs,
+        cubes,
     }))
 }
 

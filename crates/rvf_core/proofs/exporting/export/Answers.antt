@@ -17,7 +17,7 @@ use Rattle.rvf_core.proofs.exporting.export.Goals as goal
 
 -- a task with this request
 abbrev task_for : Request → Task
-task_for q = record { request = q; wording = wording.Run; folder = q.cfg; budget = 0 }
+task_for q = record { request = q; wording = wording.Run; folder = q.cfg; budget = 0; cubes = 0 }
 
 pub exported-requires-clause-ready : goal.exported-requires-clause-ready
 exported-requires-clause-ready g c = c.in-Ok.ensures.ready

@@ -15,8 +15,8 @@ pub returns-in-Run-clause-ends : goal.returns-in-Run-clause-ends
 returns-in-Run-clause-ends g c =
     c.check.ensures.ends c.args.line.now
     (run_asks c.args.line.now _ _ _ _ c.bytes.result.now c.bytes-in-Run-3.result.now c.bytes-in-Run.result.now
-    c.bytes-in-Run-2.result.now c.in-Run.budget c.in-Run.jobs c.in-Run.is c.bytes.ensures c.bytes-in-Run-3.ensures
-    c.bytes-in-Run.ensures c.bytes-in-Run-2.ensures)
+    c.bytes-in-Run-2.result.now c.in-Run.budget c.in-Run.jobs c.in-Run.cubes c.in-Run.is c.bytes.ensures
+    c.bytes-in-Run-3.ensures c.bytes-in-Run.ensures c.bytes-in-Run-2.ensures)
 
 pub returns-in-Run-clause-statuses : goal.returns-in-Run-clause-statuses
 returns-in-Run-clause-statuses g c = λ asked.
@@ -25,10 +25,10 @@ returns-in-Run-clause-statuses g c = λ asked.
     (outside (g.F.Files.state c.check.new.files) (g.O.Out.state c.check.new.out)) in
     task_statuses (Some c.args.line.now)
     (run_task c.bytes.result.now c.bytes-in-Run-3.result.now c.bytes-in-Run.result.now c.bytes-in-Run-2.result.now
-    c.in-Run.budget) r c.check.result
+    c.in-Run.budget c.in-Run.cubes) r c.check.result
     (run_asks c.args.line.now _ _ _ _ c.bytes.result.now c.bytes-in-Run-3.result.now c.bytes-in-Run.result.now
-    c.bytes-in-Run-2.result.now c.in-Run.budget c.in-Run.jobs c.in-Run.is c.bytes.ensures c.bytes-in-Run-3.ensures
-    c.bytes-in-Run.ensures c.bytes-in-Run-2.ensures) (c.check.ensures.causes asked)
+    c.bytes-in-Run-2.result.now c.in-Run.budget c.in-Run.jobs c.in-Run.cubes c.in-Run.is c.bytes.ensures
+    c.bytes-in-Run-3.ensures c.bytes-in-Run.ensures c.bytes-in-Run-2.ensures) (c.check.ensures.causes asked)
 
 pub returns-in-Cover-clause-ends : goal.returns-in-Cover-clause-ends
 returns-in-Cover-clause-ends g c =
