@@ -11,7 +11,7 @@ use fv_text::{List, Memory};
 use std::alloc::Global;
 
 /// With more variables than these not all values are tried.
-const MOST_VARIABLES: u64 = 16;
+const MOST_VARIABLES: u64 = 18;
 
 /// How many values of all variables make the clauses before the last true, and how many of them have the root and the
 /// watched bits as the graph has them for the same inputs.
