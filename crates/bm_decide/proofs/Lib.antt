@@ -7,3 +7,4 @@ pub mod SettledRuns
 pub mod Bits
 pub mod Fails
 pub mod OneByOne
+pub mod Coned

@@ -10,6 +10,7 @@ mod choosing;
 mod chosen_law;
 mod deciding;
 mod numbers;
+mod part;
 mod runs;
 mod search;
 mod settling;

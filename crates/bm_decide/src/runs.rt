@@ -9,8 +9,9 @@ ghost use Rattle.bm_unroll.specs.Frames.{AreDistinct, HasWatch, IsBadRun, IsChoi
 ghost use Rattle.bm_unroll.specs.Frames.{source_width};
 ghost use Rattle.bm_decide.specs.Runs.{ModelsAreRuns, values_in};
 
+use crate::part::part_frames;
 use bb_cuts::{NodeClauses, clauses_of_nodes};
-use bm_unroll::{Frames, unroll};
+use bm_unroll::Frames;
 use fv_text::Memory;
 use std::alloc::Global;
 use wn_net::{Net, NodeId};
@@ -48,7 +49,7 @@ pub fn clauses_of_runs(
     ensures widths { IfOk result (λ r. r.frames.widths ≡ map (source_width net.now) r.frames.sources) }
     ensures distinct { IfOk result (λ r. AreDistinct r.frames.sources) }
 {
-    let frames = unroll(alloc, net, bad, watch, cycle)?;
+    let frames = part_frames(alloc, net, bad, watch, cycle)?;
     let widths = frames.widths.as_slice();
     let nodes = frames.nodes.as_slice();
     let roots = frames.roots.as_slice();

@@ -3,7 +3,6 @@ pub mod EachKind
 pub mod Moving
 pub mod Writing
 pub mod Walking
-pub mod Early
 pub mod Choosing
 pub mod Drafting
 pub mod FirstState
@@ -12,3 +11,4 @@ pub mod Meaning
 pub mod Room
 pub mod Rows
 pub mod Runs
+pub mod Shrinking

@@ -86,7 +86,7 @@ others_at frames g vs (id ∷ ids) e =
     )
 
 -- and those of watched nodes
-watched_at : (frames : Netlist) (g : Given) (vs ids : List ℕ) → vs ≡ values_of frames g
+pub watched_at : (frames : Netlist) (g : Given) (vs ids : List ℕ) → vs ≡ values_of frames g
     → map (slice_index vs) ids ≡ numbers_of frames g ids
 unfolding value_at
 watched_at frames g vs [] e = refl
@@ -177,7 +177,7 @@ framed_watch net d frames f cycle bound watch rows read start ids h k rows_are e
 
 -- ---- what holds of all frames
 
-widths_all : (xs : List Input) → AllByRecursion (λ x. IsWidth x.width) xs
+pub widths_all : (xs : List Input) → AllByRecursion (λ x. IsWidth x.width) xs
     → AllByRecursion IsWidth (map (λ x. x.width) xs)
 widths_all [] h = tt
 widths_all (x ∷ xs) h = (h.0, widths_all xs h.1)

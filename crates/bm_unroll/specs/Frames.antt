@@ -1,5 +1,5 @@
 -- Between functions: Frames, and the runs of a net that they tell (rule of this project).
-use Rattle.std.specs.Prelude.{◌≡◌, ◌↔◌, ℕ, ◌+◌, ◌<◌, ◌≤◌, ◌^◌, sum, List, [], ◌∷◌}
+use Rattle.std.specs.Prelude.{◌≡◌, ◌↔◌, ℕ, ◌+◌, ◌<◌, ◌≤◌, ◌^◌, sum, List, [], ◌∷◌, ◌++◌}
 use Rattle.std.specs.Prelude.{Some, length, map, slice_get, slice_index, slice_index_or}
 use Rattle.std.specs.List.{AllByRecursion}
 use Rattle.wn_net.specs.declared.parts.InputKind.TheVariants.{EachCycle, Once}
@@ -9,6 +9,7 @@ use Rattle.wn_net.specs.Value.{values}
 use Rattle.wn_net.specs.Given.{AreNumbersOf, given}
 use Rattle.wn_net.specs.Net.{Netlist, value_at, shape_of}
 use Rattle.wn_run.specs.Runs.{Choices, AreChoicesOf, IsAssumed, cycle_at, inputs_at, start_of}
+use Rattle.wn_opt.specs.Compact.{IsRead}
 use Rattle.bm_unroll.specs.declared.frames.Source.{Source}
 use Rattle.bm_unroll.specs.declared.frames.Source.TheVariants as s
 use Rattle.bm_unroll.specs.declared.frames.Frames.{Frames}
@@ -64,10 +65,13 @@ pub record AreChosen (net : Netlist) (widths : List ℕ) (sources : List Source)
 abbrev pub frames_shape : Frames → Shape
 frames_shape f = record { inputs = f.widths; regs = []; mems = [] }
 
--- the value of each node under choices
+-- the value of each node where the sources have these numbers
+abbrev pub values_by : Frames → List ℕ → List ℕ
+values_by f numbers = values (frames_shape f) (given numbers (record { regs = []; mems = [] })) [] [] f.nodes
+
+-- and under choices
 abbrev pub values_under : Frames → Choices → List ℕ
-values_under f ch =
-    values (frames_shape f) (given (map (chosen ch) f.sources) (record { regs = []; mems = [] })) [] [] f.nodes
+values_under f ch = values_by f (map (chosen ch) f.sources)
 
 -- what holds of all frames
 pub record IsFrames (f : Frames) : Type 0 where
@@ -77,6 +81,10 @@ pub record IsFrames (f : Frames) : Type 0 where
   pub few : length f.sources < 2 ^ 32
   pub roots : AllByRecursion (λ id. id < length f.nodes) f.roots
   pub watch : AllByRecursion (λ id. id < length f.nodes) f.watch
+
+-- a root or a watched node reads each source, through what nodes read
+abbrev pub AreRead : Frames → Type 0
+AreRead f = (i : ℕ) → i < length f.sources → IsRead f.nodes (f.roots ++ f.watch) i
 
 -- ---- runs
 

@@ -3,3 +3,4 @@ pub mod Moved
 pub mod Walk
 pub mod Draft
 pub mod Frames
+pub mod Shrunk

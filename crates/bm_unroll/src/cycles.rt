@@ -140,20 +140,17 @@ fn last_cycle(
     Ok(Walked { roots, watch })
 }
 
-/// The cycles from 0 up to one, with these inputs in each and this start. `part` is the part of the net that is copied
-/// for the cycles before the last.
+/// The cycles from 0 up to one, with these inputs in each and this start.
 pub fn walk_cycles(
     alloc: Global,
     frames: &mut Net,
     net: &Net,
-    part: &Net,
     rows: &[List<NodeId>],
     cycle: u32,
     start: StateNodes,
     bad: NodeId,
     watch: &[NodeId],
 ) -> Result<Walked, Memory>
-    requires part { AddsNodes part.now net.now }
     requires each { length rows.now ≡ cycle + 1 }
     requires rows { AreRows frames.old (shape_of net.now) rows.now }
     requires start { IsStart frames.old (shape_of net.now) start }
@@ -170,9 +167,8 @@ pub fn walk_cycles(
         ≡ map (value_at net.now (cycle_at net.now (rows_by frames.old g rows.now) (state_by frames.old g start)
         cycle)) watch.now) }
 {
-    let _ = part.nodes();
     let mut roots = Vec::new(alloc);
-    let state = pass_cycles(alloc, frames, part, rows, cycle, start, &mut roots)?;
+    let state = pass_cycles(alloc, frames, net, rows, cycle, start, &mut roots)?;
     let last = cycle as usize;
     let row = &rows[last];
     let walked = last_cycle(alloc, frames, net, row, &state, bad, watch, roots)?;

@@ -12,6 +12,7 @@ mod frames;
 mod inputs;
 mod limits;
 mod next;
+mod shrink;
 mod starts;
 mod state;
 mod top;

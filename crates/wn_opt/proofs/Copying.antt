@@ -19,6 +19,7 @@ use Rattle.wn_opt.specs.Needed.{IsIn, operands}
 use Rattle.wn_opt.specs.Cone.{IsPlace, HasPlace, or_zero, place, renamed}
 use Rattle.wn_opt.specs.Marks.{IsSet, AreClosed}
 use Rattle.wn_opt.specs.Parts.{HasParts, IsFrame, AreCopied, ArePlaced, AreBelow, without_writes}
+use Rattle.wn_opt.specs.Rebuilt.{AreWide}
 use Rattle.wn_opt.specs.Table.{IsOperator}
 use Rattle.wn_opt.proofs.Begun.{index_map}
 use Rattle.wn_opt.proofs.Before.{before, fits_in, operands_before, width_before}
@@ -63,7 +64,7 @@ renamed_same t u (n.Zext a w) same = λ i. n.Zext (same a (0, refl) i) w
 renamed_same t u (n.Sext a w) same = λ i. n.Sext (same a (0, refl) i) w
 
 -- a node of the net names the same with one more place behind those that it reads
-renamed_on : (net : Netlist) (t : List (Option ℕ)) (o : Option ℕ) (id : ℕ) (x : Node) → IsNet net
+pub renamed_on : (net : Netlist) (t : List (Option ℕ)) (o : Option ℕ) (id : ℕ) (x : Node) → IsNet net
     → slice_get net.nodes id ≡ Some x → id ≤ length t → renamed (t ++ o ∷ []) x ≡ renamed t x
 renamed_on net t o id x whole e long =
     renamed_same t (t ++ o ∷ []) x (λ a i.
@@ -285,38 +286,47 @@ mem_widths (m ∷ ms) = ap (λ ws. m.width ∷ ws) (mem_widths ms)
 pub frame_mems : (net part : Netlist) → IsFrame net part → (shape_of net).mems ≡ (shape_of part).mems
 frame_mems net part h = sym (ap (map (λ m. m.width)) h.mems ∙ mem_widths net.mems)
 
-module _ (net part : Netlist) (marks : List Bool) (t : List (Option ℕ)) (x : Node) (whole : IsNet net)
-    (frame : IsFrame net part) (copied : AreCopied net marks part t) (placed : ArePlaced t (operands x))
+-- a renamed operator fits behind a part in which what it reads has its widths, and has its own
+module _ (net part : Netlist) (t : List (Option ℕ)) (x : Node) (whole : IsNet net)
+    (mems : (shape_of net).mems ≡ (shape_of part).mems) (wide : AreWide net part t) (placed : ArePlaced t (operands x))
     (at : slice_get net.nodes (length t) ≡ Some x) where
-  pub below_table : AreBelow (operands x) (length t)
+  below_table : AreBelow (operands x) (length t)
   below_table a i = operands_before net (length t) x whole at a i
 
   is_placed : (ws : List ℕ) → ((a : ℕ) → a < length t → slice_index ws a ≡ width_at net a)
       → (a : ℕ) → IsIn (operands x) a → IsPlaced part t ws a
   unfolding width_at
-  is_placed ws wide a i =
+  is_placed ws same a i =
       let p = placed a i in
-      let own = copied.widths a p.0 p.1 in
+      let own = wide a p.0 p.1 in
       let is = place_is t a p.0 p.1 in
       record {
         there = omega (arith, is, own.0, length-widths_of part);
-        width = ap (slice_index (widths_of part)) is ∙ own.1 ∙ sym (wide a (below_table a i));
+        width = ap (slice_index (widths_of part)) is ∙ own.1 ∙ sym (same a (below_table a i));
       }
 
-  pub next_fits : IsOperator x → IsFitting (shape_of part) (widths_of part) (renamed t x)
-  next_fits op =
+  pub operator_fits : IsOperator x → IsFitting (shape_of part) (widths_of part) (renamed t x)
+  operator_fits op =
       let less = get_less net.nodes (length t) x at in
       let long : length t ≤ length net.nodes = omega (arith, less) in
-      fits_renamed (shape_of net) (before net (length t)) part t x op (frame_mems net part frame)
+      fits_renamed (shape_of net) (before net (length t)) part t x op mems
       (is_placed (before net (length t)) (λ a low. width_before net (length t) a long low))
       (fits_in net (length t) x whole at)
 
-  next_width : IsOperator x → width_in part (renamed t x) ≡ width_at net (length t)
+  pub operator_width : IsOperator x → width_in part (renamed t x) ≡ width_at net (length t)
   unfolding width_at
-  next_width op =
-      width_renamed (shape_of net) (widths_of net) part t x op (frame_mems net part frame)
-      (is_placed (widths_of net) (λ a low. refl))
+  operator_width op =
+      width_renamed (shape_of net) (widths_of net) part t x op mems (is_placed (widths_of net) (λ a low. refl))
       ∙ sym (each_width net (length t) x whole at)
+
+module _ (net part : Netlist) (marks : List Bool) (t : List (Option ℕ)) (x : Node) (whole : IsNet net)
+    (frame : IsFrame net part) (copied : AreCopied net marks part t) (placed : ArePlaced t (operands x))
+    (at : slice_get net.nodes (length t) ≡ Some x) where
+  pub next_fits : IsOperator x → IsFitting (shape_of part) (widths_of part) (renamed t x)
+  next_fits op = operator_fits net part t x whole (frame_mems net part frame) copied.widths placed at op
+
+  next_width : IsOperator x → width_in part (renamed t x) ≡ width_at net (length t)
+  next_width op = operator_width net part t x whole (frame_mems net part frame) copied.widths placed at op
 
   -- an operator behind the others
   pub next_built : (b : Netlist) (id : ℕ) → IsOperator x → id ≡ length part.nodes → b ≡ with_node part (renamed t x)

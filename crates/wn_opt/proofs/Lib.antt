@@ -4,6 +4,7 @@ pub mod Begun
 pub mod Building
 pub mod Choices
 pub mod Choosing
+pub mod Compacting
 pub mod Copying
 pub mod Counting
 pub mod Equal
@@ -12,9 +13,12 @@ pub mod Framing
 pub mod In
 pub mod Joining
 pub mod Knowns
+pub mod Marked
+pub mod Narrowing
 pub mod Onces
 pub mod Running
 pub mod Same
+pub mod Sharing
 pub mod Sounds
 pub mod Sources
 pub mod Tables

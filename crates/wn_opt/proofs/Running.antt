@@ -80,7 +80,7 @@ pub record HasNexts (net part : Netlist) (t : List (Option ℕ)) : Type 0 where
 read_same : (net : Netlist) (t : List (Option ℕ)) (inputs : List ℕ) (a b : State) → AreAlike net t a b
     → ReadSame net t (given inputs a) (given inputs b)
 read_same net t inputs a b alike id x p e = record {
-  inputs = refl;
+  input = λ i is. refl;
   reg = λ i is. alike.regs i id p (e ∙ ap Some is);
   mem = λ m at is. index_like a.mems b.mems m [] (alike.mems m at id p (e ∙ ap Some is));
 }

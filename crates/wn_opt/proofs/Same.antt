@@ -16,7 +16,7 @@ use Rattle.wn_opt.proofs.Before.{operands_before}
 
 -- what a node reads of inputs, registers and memories is the same in two cycles
 pub record HasSame (g h : Given) (x : Node) : Type 0 where
-  pub inputs : h.inputs ≡ g.inputs
+  pub input : (i : ℕ) → x ≡ n.Input i → slice_index h.inputs i ≡ slice_index g.inputs i
   pub reg : (i : ℕ) → x ≡ n.Reg i → slice_index h.state.regs i ≡ slice_index g.state.regs i
   pub mem : (m a : ℕ) → x ≡ n.Read m a → words_of h m ≡ words_of g m
 
@@ -31,7 +31,7 @@ module _ (g h : Given) (t : List (Option ℕ)) (ws vs us ts : List ℕ) where
 
   pub value_renamed : (x : Node) → HasSame g h x → ReadAll x → value h us ts (renamed t x) ≡ value g ws vs x
   value_renamed (n.Konst word) same r = refl
-  value_renamed (n.Input i) same r = ap (λ xs. slice_index xs i) same.inputs
+  value_renamed (n.Input i) same r = same.input i refl
   value_renamed (n.Reg i) same r = same.reg i refl
   value_renamed (n.Read m a) same r = rw ((r a (0, refl)).value, same.mem m a refl) refl
   value_renamed (n.Not a) same r = rw ((r a (0, refl)).width, (r a (0, refl)).value) refl

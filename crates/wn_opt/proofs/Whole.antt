@@ -145,7 +145,7 @@ module _ (net : Netlist) (roots : List ℕ) (m : Marks) (t : List (Option ℕ)) 
 
 module _ (net : Netlist) (roots : List ℕ) (part : Netlist) (t : List (Option ℕ)) (h : IsCone net roots part t)
     (whole : IsNet net) (own : IsNet part) where
-  same_state : HasSameState net part
+  pub same_state : HasSameState net part
   same_state = record {
     inputs = h.inputs;
     regs_each = h.regs_each;

@@ -7,3 +7,5 @@ pub mod Needed
 pub mod Parts
 pub mod Sound
 pub mod Table
+pub mod Compact
+pub mod Rebuilt

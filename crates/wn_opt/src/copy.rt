@@ -11,8 +11,8 @@ use fv_text::Memory;
 use std::alloc::Global;
 use wn_net::{Net, Node, NodeId};
 
-/// The new number of an old node; 0 where it has none.
-pub(crate) fn place(places: &[Option<NodeId>], id: NodeId) -> NodeId
+/// The new number of an old node, by the answered list of `cone`; 0 where it has none.
+pub fn place(places: &[Option<NodeId>], id: NodeId) -> NodeId
     ensures { result ≡ spec.place places.now id }
 {
     match places.get(id as usize) {
@@ -22,7 +22,7 @@ pub(crate) fn place(places: &[Option<NodeId>], id: NodeId) -> NodeId
 }
 
 /// The node with new numbers for what it reads.
-fn renamed(places: &[Option<NodeId>], node: &Node) -> Node
+pub(crate) fn renamed(places: &[Option<NodeId>], node: &Node) -> Node
     ensures { result ≡ spec.renamed places.now node.now }
 {
     match *node {

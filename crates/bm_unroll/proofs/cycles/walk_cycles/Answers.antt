@@ -1,24 +1,12 @@
 use Rattle.std.specs.Prelude.{◌<◌, length, map}
-use Rattle.std.proofs.Common.{ap, ◌∙◌, arith, subst}
+use Rattle.std.proofs.Common.{ap, ◌∙◌, arith}
 use Rattle.wn_net.specs.Net.{shape_of, value_at}
-use Rattle.wn_net.specs.Width.{Shape}
 use Rattle.wn_net.proofs.Laws.{given_on}
 use Rattle.wn_mem.specs.Words.{numbers_of}
 use Rattle.bm_unroll.specs.Cycle.{given_by, state_by}
-use Rattle.bm_unroll.specs.Walk.{AreRows, IsStart, rows_by}
+use Rattle.bm_unroll.specs.Walk.{rows_by}
 use Rattle.bm_unroll.proofs.Walking.{bad_at, cycle_is, row_read, stand_here}
-use Rattle.bm_unroll.proofs.Early.{passes_early, shape_same}
 use Rattle.bm_unroll.proofs.cycles.walk_cycles.Goals as goal
-
-pub pass_cycles-requires-clause-rows : goal.pass_cycles-requires-clause-rows
-pass_cycles-requires-clause-rows c =
-    let P : Shape → Type 0 = λ s. AreRows c.args.frames.now s c.args.rows.now in
-    subst P (shape_same c.args.part.now c.args.net.now c.requires.part) c.requires.rows
-
-pub pass_cycles-requires-clause-start : goal.pass_cycles-requires-clause-start
-pass_cycles-requires-clause-start c =
-    let P : Shape → Type 0 = λ s. IsStart c.args.frames.now s c.args.start in
-    subst P (shape_same c.args.part.now c.args.net.now c.requires.part) c.requires.start
 
 pub last_cycle-requires-clause-stand : goal.last_cycle-requires-clause-stand
 last_cycle-requires-clause-stand c =
@@ -27,18 +15,14 @@ last_cycle-requires-clause-stand c =
     stand_here now c.args.net.now c.index-rows-last.result c.in_ok-state.state
     (row_read c.args.frames.now now (shape_of c.args.net.now) c.args.rows.now c.args.cycle c.index-rows-last.result
     c.in_ok-state.ensures.adds c.requires.rows below c.index-rows-last.is)
-    (passes_early c.args.frames.now now c.args.part.now c.args.net.now c.args.rows.now c.args.start c.args.cycle
-    c.in_ok-state.state c.pass_cycles.new.roots.items c.nodes.ensures.whole c.requires.part c.requires.start
-    c.in_ok-state.ensures.passes).is_start
+    c.in_ok-state.ensures.passes.is_start
 
 pub returns-clause-roots : goal.returns-clause-roots
 returns-clause-roots c = λ g given.
     let old = c.args.frames.now in
     let now = c.pass_cycles.new.frames in
     let below : c.args.cycle < length c.args.rows.now = omega arith in
-    let passes = passes_early old now c.args.part.now c.args.net.now c.args.rows.now c.args.start c.args.cycle
-    c.in_ok-state.state c.pass_cycles.new.roots.items c.nodes.ensures.whole c.requires.part c.requires.start
-    c.in_ok-state.ensures.passes in
+    let passes = c.in_ok-state.ensures.passes in
     bad_at c.args.net.now (rows_by old g c.args.rows.now) (state_by old g c.args.start) c.args.cycle c.args.bad
     (given_by now g c.index-rows-last.result c.in_ok-state.state)
     (numbers_of now g c.pass_cycles.new.roots.items)
@@ -53,9 +37,7 @@ returns-clause-watch c = λ g given.
     let old = c.args.frames.now in
     let now = c.pass_cycles.new.frames in
     let below : c.args.cycle < length c.args.rows.now = omega arith in
-    let passes = passes_early old now c.args.part.now c.args.net.now c.args.rows.now c.args.start c.args.cycle
-    c.in_ok-state.state c.pass_cycles.new.roots.items c.nodes.ensures.whole c.requires.part c.requires.start
-    c.in_ok-state.ensures.passes in
+    let passes = c.in_ok-state.ensures.passes in
     c.in_ok-walked.ensures.watch g (given_on old now g passes.adds given)
     ∙ ap (λ G. map (value_at c.args.net.now G) c.args.watch.now)
     (cycle_is old now c.args.net.now c.args.rows.now c.args.start c.args.cycle c.index-rows-last.result

@@ -1,14 +1,18 @@
-use Rattle.std.specs.Prelude.{ℕ, List, length, map}
-use Rattle.std.specs.List.{AllByRecursion}
+use Rattle.std.specs.Prelude.{ℕ, List, length, map, refl}
 use Rattle.std.proofs.Common.{ap, sym, ◌∙◌, subst, arith}
+use Rattle.std.proofs.lemmas.List.{length-map}
+use Rattle.wn_net.specs.declared.parts.Input.{Input}
 use Rattle.wn_net.specs.Net.{shape_of}
 use Rattle.bm_unroll.specs.Walk.{AreRows}
-use Rattle.bm_unroll.specs.declared.frames.Source.{Source}
-use Rattle.bm_unroll.specs.Frames.{AreDistinct, AreChosen, IsChoice, source_width}
+use Rattle.bm_unroll.specs.declared.draft.Draft.{Draft}
+use Rattle.bm_unroll.specs.declared.frames.Frames.{Frames}
+use Rattle.bm_unroll.specs.Frames.{source_width}
+use Rattle.bm_unroll.specs.Shrunk.{frames_of}
 use Rattle.bm_unroll.proofs.Choosing.{are_chosen}
 use Rattle.bm_unroll.proofs.Rows.{rows_there}
 use Rattle.bm_unroll.proofs.FirstState.{start_on}
-use Rattle.bm_unroll.proofs.Runs.{AreFramed, framed_roots, framed_watch, framed_whole}
+use Rattle.bm_unroll.proofs.Runs.{AreFramed, framed_roots, framed_watch}
+use Rattle.bm_unroll.proofs.Shrinking.{distinct_picked, shrunk_choices, shrunk_roots, shrunk_watch, shrunk_widths}
 use Rattle.bm_unroll.proofs.top.unroll.Goals as goal
 
 pub starts-requires-clause-room : goal.starts-requires-clause-room
@@ -40,28 +44,35 @@ walk_cycles-requires-clause-start c =
     (start_on c.args.net.now c.starts.new.draft c.input_rows.new.draft 101000000 c.in_ok-start.start
     c.in_ok-rows.ensures.extends c.in_ok-start.ensures.start).start
 
-pub returns-clause-whole : goal.returns-clause-whole
-returns-clause-whole c =
+pub shrink-requires-clause-flat : goal.shrink-requires-clause-flat
+shrink-requires-clause-flat c =
     let net = c.args.net.now in
     let d = c.input_rows.new.draft in
     let drafted = c.in_ok-rows.ensures.draft
     (c.in_ok-start.ensures.draft c.args.cycle (c.new-draft.ensures.draft net c.args.cycle)) in
-    let made : AreFramed d c.walk_cycles.new.frames c.framed-frames.result = record {
-      adds = c.in_ok-walked.ensures.adds;
-      nodes_are = c.framed-frames.ensures.nodes;
-      sources_are = c.framed-frames.ensures.sources;
-      widths_are = c.framed-frames.ensures.widths;
-    } in
-    framed_whole net d c.walk_cycles.new.frames c.framed-frames.result c.args.cycle _
-    c.in_ok-walked.walked.roots.items c.in_ok-walked.walked.watch.items drafted made
-    (omega (
-      arith,
-      c.in_ok-rows.ensures.extends.few,
-      c.in_ok-start.ensures.extends.few,
-      ap length c.new-draft.ensures.none,
-    )) c.framed-frames.ensures.whole
-    c.in_ok-walked.ensures.there c.in_ok-walked.ensures.watch_there c.framed-frames.ensures.roots
-    c.framed-frames.ensures.watch
+    (c.in_ok-walked.ensures.adds.regs ∙ drafted.no_regs, c.in_ok-walked.ensures.adds.mems ∙ drafted.no_mems)
+
+pub shrink-requires-clause-inputs : goal.shrink-requires-clause-inputs
+shrink-requires-clause-inputs c =
+    let net = c.args.net.now in
+    let d = c.input_rows.new.draft in
+    let drafted = c.in_ok-rows.ensures.draft
+    (c.in_ok-start.ensures.draft c.args.cycle (c.new-draft.ensures.draft net c.args.cycle)) in
+    ap (map (λ (x : Input). x.width)) c.in_ok-walked.ensures.adds.inputs ∙ drafted.inputs
+
+pub shrink-requires-clause-each : goal.shrink-requires-clause-each
+shrink-requires-clause-each c =
+    let net = c.args.net.now in
+    let d = c.input_rows.new.draft in
+    let drafted = c.in_ok-rows.ensures.draft
+    (c.in_ok-start.ensures.draft c.args.cycle (c.new-draft.ensures.draft net c.args.cycle)) in
+    ap length drafted.widths ∙ length-map d.sources.items (source_width net)
+
+pub returns-clause-whole : goal.returns-clause-whole
+returns-clause-whole c = c.in_ok-frames.ensures.whole
+
+pub returns-clause-read : goal.returns-clause-read
+returns-clause-read c = c.in_ok-frames.ensures.read
 
 pub returns-clause-roots : goal.returns-clause-roots
 returns-clause-roots c =
@@ -69,18 +80,22 @@ returns-clause-roots c =
     let d = c.input_rows.new.draft in
     let drafted = c.in_ok-rows.ensures.draft
     (c.in_ok-start.ensures.draft c.args.cycle (c.new-draft.ensures.draft net c.args.cycle)) in
-    let made : AreFramed d c.walk_cycles.new.frames c.framed-frames.result = record {
+    let all : Draft = record { net = c.walk_cycles.new.frames; sources = d.sources; widths = d.widths } in
+    let old : Frames = frames_of all c.in_ok-walked.walked in
+    let made : AreFramed d c.walk_cycles.new.frames old = record {
       adds = c.in_ok-walked.ensures.adds;
-      nodes_are = c.framed-frames.ensures.nodes;
-      sources_are = c.framed-frames.ensures.sources;
-      widths_are = c.framed-frames.ensures.widths;
+      nodes_are = refl;
+      sources_are = refl;
+      widths_are = refl;
     } in
     let start = start_on net c.starts.new.draft d 101000000 c.in_ok-start.start c.in_ok-rows.ensures.extends
     c.in_ok-start.ensures.start in
-    framed_roots net d c.walk_cycles.new.frames c.framed-frames.result c.args.cycle _ c.args.bad
-    c.in_ok-rows.rows.items c.as_slice-rows.result.now c.in_ok-start.start c.in_ok-walked.walked.roots.items drafted
-    made c.in_ok-rows.ensures.rows c.in_ok-rows.ensures.each c.as_slice-rows.ensures.value start
-    c.framed-frames.ensures.roots c.in_ok-walked.ensures.roots
+    shrunk_roots net c.args.cycle old c.in_ok-frames.frames c.in_ok-frames.ensures drafted.choices drafted.widths
+    c.args.bad
+    (framed_roots net d c.walk_cycles.new.frames old c.args.cycle _ c.args.bad c.in_ok-rows.rows.items
+    c.as_slice-rows.result.now c.in_ok-start.start c.in_ok-walked.walked.roots.items drafted made
+    c.in_ok-rows.ensures.rows c.in_ok-rows.ensures.each c.as_slice-rows.ensures.value start refl
+    c.in_ok-walked.ensures.roots)
 
 pub returns-clause-watch : goal.returns-clause-watch
 returns-clause-watch c =
@@ -88,18 +103,22 @@ returns-clause-watch c =
     let d = c.input_rows.new.draft in
     let drafted = c.in_ok-rows.ensures.draft
     (c.in_ok-start.ensures.draft c.args.cycle (c.new-draft.ensures.draft net c.args.cycle)) in
-    let made : AreFramed d c.walk_cycles.new.frames c.framed-frames.result = record {
+    let all : Draft = record { net = c.walk_cycles.new.frames; sources = d.sources; widths = d.widths } in
+    let old : Frames = frames_of all c.in_ok-walked.walked in
+    let made : AreFramed d c.walk_cycles.new.frames old = record {
       adds = c.in_ok-walked.ensures.adds;
-      nodes_are = c.framed-frames.ensures.nodes;
-      sources_are = c.framed-frames.ensures.sources;
-      widths_are = c.framed-frames.ensures.widths;
+      nodes_are = refl;
+      sources_are = refl;
+      widths_are = refl;
     } in
     let start = start_on net c.starts.new.draft d 101000000 c.in_ok-start.start c.in_ok-rows.ensures.extends
     c.in_ok-start.ensures.start in
-    framed_watch net d c.walk_cycles.new.frames c.framed-frames.result c.args.cycle _ c.args.watch.now
-    c.in_ok-rows.rows.items c.as_slice-rows.result.now c.in_ok-start.start c.in_ok-walked.walked.watch.items drafted
-    made c.in_ok-rows.ensures.rows c.in_ok-rows.ensures.each c.as_slice-rows.ensures.value start
-    c.framed-frames.ensures.watch c.in_ok-walked.ensures.watch
+    shrunk_watch net c.args.cycle old c.in_ok-frames.frames c.in_ok-frames.ensures drafted.choices drafted.widths
+    c.args.watch.now
+    (framed_watch net d c.walk_cycles.new.frames old c.args.cycle _ c.args.watch.now c.in_ok-rows.rows.items
+    c.as_slice-rows.result.now c.in_ok-start.start c.in_ok-walked.walked.watch.items drafted made
+    c.in_ok-rows.ensures.rows c.in_ok-rows.ensures.each c.as_slice-rows.ensures.value start refl
+    c.in_ok-walked.ensures.watch)
 
 pub returns-clause-sources : goal.returns-clause-sources
 returns-clause-sources c =
@@ -107,8 +126,9 @@ returns-clause-sources c =
     let d = c.input_rows.new.draft in
     let drafted = c.in_ok-rows.ensures.draft
     (c.in_ok-start.ensures.draft c.args.cycle (c.new-draft.ensures.draft net c.args.cycle)) in
-    let P : List Source → Type 0 = λ xs. AllByRecursion (IsChoice net c.args.cycle) xs in
-    subst P (sym c.framed-frames.ensures.sources) drafted.choices
+    let all : Draft = record { net = c.walk_cycles.new.frames; sources = d.sources; widths = d.widths } in
+    let old : Frames = frames_of all c.in_ok-walked.walked in
+    shrunk_choices net c.args.cycle old c.in_ok-frames.frames c.in_ok-frames.ensures drafted.choices drafted.widths
 
 pub returns-clause-widths : goal.returns-clause-widths
 returns-clause-widths c =
@@ -116,8 +136,9 @@ returns-clause-widths c =
     let d = c.input_rows.new.draft in
     let drafted = c.in_ok-rows.ensures.draft
     (c.in_ok-start.ensures.draft c.args.cycle (c.new-draft.ensures.draft net c.args.cycle)) in
-    c.framed-frames.ensures.widths ∙ drafted.widths
-    ∙ sym (ap (map (source_width net)) c.framed-frames.ensures.sources)
+    let all : Draft = record { net = c.walk_cycles.new.frames; sources = d.sources; widths = d.widths } in
+    let old : Frames = frames_of all c.in_ok-walked.walked in
+    shrunk_widths net c.args.cycle old c.in_ok-frames.frames c.in_ok-frames.ensures drafted.choices drafted.widths
 
 pub returns-clause-distinct : goal.returns-clause-distinct
 returns-clause-distinct c =
@@ -125,8 +146,10 @@ returns-clause-distinct c =
     let d = c.input_rows.new.draft in
     let drafted = c.in_ok-rows.ensures.draft
     (c.in_ok-start.ensures.draft c.args.cycle (c.new-draft.ensures.draft net c.args.cycle)) in
-    let P : List Source → Type 0 = λ xs. AreDistinct xs in
-    subst P (sym c.framed-frames.ensures.sources) drafted.distinct
+    let all : Draft = record { net = c.walk_cycles.new.frames; sources = d.sources; widths = d.widths } in
+    let old : Frames = frames_of all c.in_ok-walked.walked in
+    let s = c.in_ok-frames.ensures in
+    distinct_picked old.sources drafted.distinct c.in_ok-frames.frames.sources s.kept s.sources s.rising
 
 pub returns-clause-chosen : goal.returns-clause-chosen
 returns-clause-chosen c =
@@ -134,7 +157,11 @@ returns-clause-chosen c =
     let d = c.input_rows.new.draft in
     let drafted = c.in_ok-rows.ensures.draft
     (c.in_ok-start.ensures.draft c.args.cycle (c.new-draft.ensures.draft net c.args.cycle)) in
-    let P : List Source → Type 0 = λ xs. AreChosen net c.framed-frames.result.widths xs in
-    subst P (sym c.framed-frames.ensures.sources)
-    (are_chosen net c.args.cycle c.framed-frames.result.widths d.sources.items
-    (c.framed-frames.ensures.widths ∙ drafted.widths) drafted.choices drafted.distinct)
+    let all : Draft = record { net = c.walk_cycles.new.frames; sources = d.sources; widths = d.widths } in
+    let old : Frames = frames_of all c.in_ok-walked.walked in
+    let s = c.in_ok-frames.ensures in
+    let f = c.in_ok-frames.frames in
+    are_chosen net c.args.cycle f.widths f.sources
+    (shrunk_widths net c.args.cycle old f s drafted.choices drafted.widths)
+    (shrunk_choices net c.args.cycle old f s drafted.choices drafted.widths)
+    (distinct_picked old.sources drafted.distinct f.sources s.kept s.sources s.rising)
