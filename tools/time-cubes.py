@@ -1,14 +1,16 @@
 #!/usr/bin/env python3
 """Times `rvf run` with some numbers of split variables, and judges its proofs by `rvf lrat` and by tools/lrat_rules.py.
 
-    tools/time-cubes.py [--program PATH] [--jobs N] [--cubes N ..] CFG [WORD ..]
-    tools/time-cubes.py [--program PATH] [--jobs N] [--cubes N ..] --bench N [WORD ..]
+    tools/time-cubes.py [--program PATH] [--jobs N] [--cubes N].. CFG [WORD ..]
+    tools/time-cubes.py [--program PATH] [--jobs N] [--cubes N].. --bench N [WORD ..]
+    tools/time-cubes.py [--program PATH] [--jobs N] [--cubes N].. --products N [WORD ..]
 
 The WORDs are further ones of `rvf run`, as `--core tiny`, behind `--` where they begin with a hyphen. `--bench N` takes
-the configuration and the design of `rvf bench N`, as the program has them. Prints for each number of split variables (0,
-2 and 4), with so many workers (4), the seconds of the clock and of the processors, how many steps the proofs of passes
-add, and their bytes; ends with 1 where a proof is refused, or the lines aren't the same for all numbers. It wants as many
-free processors as there are workers.
+the configuration and the design of `rvf bench N`, as the program has them; `--products N` the check `ill` alone of the
+core of tools/time-jobs.py, for which two products of N bits have to be equal. Prints for each number of split variables
+(0, 2 and 4 where none is given), with so many workers (4), the seconds of the clock and of the processors, how many
+steps the proofs of passes add, and their bytes; ends with 1 where a proof is refused, or the lines aren't the same for
+all numbers. It wants as many free processors as there are workers.
 PROGRAM is `rvf`, which proves and builds the program first.
 """
 import argparse
@@ -21,9 +23,11 @@ import tempfile
 import time
 
 import lrat_rules
+import made
 
 HERE = os.path.dirname(os.path.abspath(__file__))
 BENCH = os.path.join(HERE, "..", "crates", "rvf_core", "src", "bench_files.rt")
+PRODUCTS = "[options]\nisa rv32i\n[depth]\nill 1\n[verilog-files]\nw.v\n"
 
 
 def bench_texts():
@@ -41,6 +45,17 @@ def write_bench(folder, size):
     for name, text in ((path, texts["CONFIG_TEXT"]), (os.path.join(folder, "bench.v"), design)):
         with open(name, "w") as file:
             file.write(text)
+    return path
+
+
+def write_products(folder, bits):
+    """Writes a configuration of one check that two products of so many bits are equal for; its path."""
+    text = made.script("time-jobs").WRAPPER
+    text = text.replace("2*BITS-1", str(2 * bits - 1)).replace("BITS-1", str(bits - 1))
+    path = os.path.join(folder, "checks.cfg")
+    for name, part in ((path, PRODUCTS), (os.path.join(folder, "w.v"), text)):
+        with open(name, "w") as file:
+            file.write(part)
     return path
 
 
@@ -77,8 +92,9 @@ def main():
     options = argparse.ArgumentParser()
     options.add_argument("--program", default=os.path.join(HERE, "..", "rvf"))
     options.add_argument("--jobs", type=int, default=4)
-    options.add_argument("--cubes", type=int, nargs="+", default=[0, 2, 4])
+    options.add_argument("--cubes", type=int, action="append")
     options.add_argument("--bench", type=int)
+    options.add_argument("--products", type=int)
     options.add_argument("words", nargs="*")
     options = options.parse_args()
     program, first, holds = os.path.abspath(options.program), None, True
@@ -86,8 +102,10 @@ def main():
         words = list(options.words)
         if options.bench is not None:
             words.insert(0, write_bench(folder, options.bench))
+        if options.products is not None:
+            words.insert(0, write_products(folder, options.products))
         words[0] = os.path.abspath(words[0])
-        for cubes in options.cubes:
+        for cubes in options.cubes or [0, 2, 4]:
             said, proofs, clock, processors = run(program, words, folder, cubes, options.jobs)
             first = first or said
             accepted = all(proof.is_accepted() for proof in proofs)

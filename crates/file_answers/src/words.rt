@@ -42,6 +42,10 @@ fn asked(alloc: Global, line: &Line) -> Result<String, Memory> {
         Line::Bench { size } => format!(in alloc; "bench {size}")?,
         Line::Cover(options) => with_options(alloc, "cover", options)?,
         Line::Zb(options) => with_options(alloc, "zb", options)?,
+        Line::Induct { options, steps } => {
+            let asked = with_options(alloc, "induct", options)?;
+            format!(in alloc; "{asked} steps {steps}")?
+        }
         Line::Toaig {
             cfg,
             check,

@@ -1,7 +1,7 @@
 //! The net of a line, the numbers in its registers and memories, and what a line says.
 
 use crate::part::{node_at, numbers_from, word};
-use crate::{chain, make, rebuild, runs, show, store};
+use crate::{chain, halves, make, rebuild, runs, show, store};
 use fv_text::{List, Memory};
 use std::alloc::Global;
 use wn_net::{Net, NodeId, State};
@@ -56,6 +56,9 @@ impl Bench {
             "eval" => self.evaluated(out, part),
             "step" => self.stepped(out, part),
             "sources" | "places" | "run" | "gates" | "clauses" | "cuts" | "models" => runs::answer(
+                self.alloc, &self.net, out, part,
+            ),
+            "base" | "later" | "base-sources" | "later-sources" => halves::answer(
                 self.alloc, &self.net, out, part,
             ),
             _ => self.made(part),

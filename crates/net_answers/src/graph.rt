@@ -4,7 +4,7 @@ ghost use Rattle.bm_unroll.specs.Frames.{IsFrames};
 
 use crate::part::{numbers_from, word};
 use crate::{models, show};
-use bb_aig::Lit;
+use bb_aig::{Aig, Lit};
 use bb_blast::{Blasted, blast};
 use bm_decide::RunClauses;
 use fv_text::Memory;
@@ -40,7 +40,7 @@ pub(crate) fn answer(
 }
 
 /// The literals of the watched node.
-fn literals(blasted: &Blasted) -> &[Lit] {
+fn watched(blasted: &Blasted) -> &[Lit] {
     match blasted.watch.get(0) {
         Some(lits) => lits.as_slice(),
         None => &[],
@@ -50,7 +50,7 @@ fn literals(blasted: &Blasted) -> &[Lit] {
 fn put_gates(out: &mut String, blasted: &Blasted, clauses: usize) -> Result<(), Memory> {
     let nodes = blasted.graph.len();
     write!(out, "{nodes} nodes, {clauses} clauses:")?;
-    for lit in literals(blasted) {
+    for lit in watched(blasted) {
         write!(out, " {lit}")?;
     }
     Ok(())
@@ -77,6 +77,22 @@ pub(crate) fn is_true(values: &[bool], lit: Lit) -> bool {
     }
 }
 
+/// The values of a graph's nodes where sources of these widths have these numbers; None where these aren't as many.
+pub(crate) fn values_of(
+    alloc: Global,
+    graph: &Aig,
+    widths: &[u32],
+    numbers: &[u128],
+) -> Result<Option<Vec<bool>>, Memory> {
+    let bits = bits(alloc, widths, numbers)?;
+    if numbers.len() != widths.len() || bits.len() as u64 != graph.inputs() {
+        return Ok(None);
+    }
+    let mut values = vec![in alloc; false; graph.len()]?;
+    graph.eval(bits.as_slice(), values.as_mut_slice());
+    Ok(Some(values))
+}
+
 /// Whether the root is true, and the number of the watched node, where sources have these numbers.
 fn run(
     alloc: Global,
@@ -85,20 +101,16 @@ fn run(
     widths: &[u32],
     numbers: &[u128],
 ) -> Result<bool, Memory> {
-    let graph = &blasted.graph;
-    let bits = bits(alloc, widths, numbers)?;
-    if numbers.len() != widths.len() || bits.len() as u64 != graph.inputs() {
-        return Ok(false);
+    match values_of(alloc, &blasted.graph, widths, numbers)? {
+        Some(values) => put_end(out, blasted, values.as_slice()),
+        None => Ok(false),
     }
-    let mut values = vec![in alloc; false; graph.len()]?;
-    graph.eval(bits.as_slice(), values.as_mut_slice());
-    put_end(out, blasted, values.as_slice())
 }
 
 /// The root and the watched node where the nodes of the graph have these values.
 fn put_end(out: &mut String, blasted: &Blasted, values: &[bool]) -> Result<bool, Memory> {
     write!(out, "{} ", is_true(values, blasted.root))?;
-    show::put_number(out, number_of(values, literals(blasted)))?;
+    show::put_number(out, number_of(values, watched(blasted)))?;
     Ok(true)
 }
 

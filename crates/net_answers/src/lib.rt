@@ -32,6 +32,8 @@
 //! | `clauses CYCLE BAD A` | how many variables there are, and the clauses |
 //! | `cuts CYCLE BAD A` | how many variables and clauses there are by cuts, however small the graph is |
 //! | `models CYCLE BAD A` | how many models these have without the last, and how many are as the graph has it |
+//! | `base-sources K BAD`, `later-sources K BAD` | what may be chosen in the base of an induction, and in its step |
+//! | `base K BAD NUMBER ..`, `later K BAD NUMBER ..` | where these are chosen: whether all roots are other than 0 |
 //!
 //! `BAD` counts where it is other than 0 in that cycle and the assumptions were met up to it. Both answers of `run`
 //! are read from the graph. A part that doesn't fit the net is answered `refused`. This crate says what the crates
@@ -41,6 +43,7 @@
 mod bench;
 mod chain;
 mod graph;
+mod halves;
 mod make;
 mod models;
 mod part;

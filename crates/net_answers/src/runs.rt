@@ -49,7 +49,7 @@ fn put_comma(out: &mut String) -> Result<(), Memory> {
 }
 
 /// An input by its number and its cycle, or by its number alone; a register; a word of a memory.
-fn put_sources(out: &mut String, sources: &[Source]) -> Result<(), Memory> {
+pub(crate) fn put_sources(out: &mut String, sources: &[Source]) -> Result<(), Memory> {
     for source in sources {
         put_comma(out)?;
         match source {

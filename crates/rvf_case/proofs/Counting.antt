@@ -23,7 +23,9 @@ use Rattle.rv_zb.specs.Rows.{zb_rows}
 use Rattle.ck_cover.specs.Targets.{any_of, any_target, any_targets, greatest, hit_of, hit_row, hit_target, hit_targets}
 use Rattle.ck_cover.specs.Targets.{targets_of}
 use Rattle.ck_cover.specs.declared.target.Target.{Target}
-use Rattle.rvf_case.specs.Texts.{is_same_text, factors_of, only_named, questions_of, with_text}
+use Rattle.ck_gen.specs.Monitors.{is_of_one_cycle}
+use Rattle.ck_induct.specs.OneCycle.{in_cycle}
+use Rattle.rvf_case.specs.Texts.{is_same_text, factors_of, of_one_cycle, only_named, questions_of, with_text}
 use Rattle.ck_ask.specs.Questions.{question_cycle, question_kind}
 use Rattle.ck_ask.specs.ZbChecks.{is_insn_at, zb_channel_check, zb_check_at, zb_checks_of, zb_row_checks}
 use Rattle.ck_ask.specs.declared.zb_check.ZbCheck.{ZbCheck}
@@ -165,6 +167,14 @@ few_questions asking.Zb c e =
     let few = few_zb_checks (checks_of c) c.nret e in
     let most : 22 < 2 ^ 32 = lit≤ tt in
     omega (arith, many, few, most)
+few_questions (asking.Lengths k) c e =
+    let kept = filter (λ (x : Check). is_of_one_cycle x.kind) (checks_of c) in
+    let many = length-map (of_one_cycle k (checks_of c)) (λ (x : Check). question.Check x) in
+    let moved = length-map kept (λ (x : Check). in_cycle x k) in
+    let fewest = fewer (λ (x : Check). is_of_one_cycle x.kind) (checks_of c) in
+    let few = few_checks c e in
+    let most : 1400 < 2 ^ 32 = lit≤ tt in
+    omega (arith, many, moved, fewest, few, most)
 few_questions (asking.One name) c e =
     let many = length-map (only_named name (checks_of c)) (λ (x : Check). question.Check x) in
     let few = one_named name (checks_of c) in

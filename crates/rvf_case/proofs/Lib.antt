@@ -9,3 +9,4 @@ pub mod Readiness
 pub mod Sames
 pub mod Turns
 pub mod OneNamed
+pub mod Lengths

@@ -1,6 +1,6 @@
 -- What is loaded of each question's text is fit for the question.
 use Rattle.std.proofs.Common.{◌≡◌, ℕ, ◌≤◌, Bool, true, false, cond, ◌||◌, List, [], ◌∷◌, Some, Ok, refl, sym, ◌∙◌}
-use Rattle.std.proofs.Common.{ap, subst, inl, inr}
+use Rattle.std.proofs.Common.{ap, subst, inl, inr, arith}
 use Rattle.std.specs.Prelude.{if◌then◌else◌, map}
 use Rattle.std.specs.List.{AllByRecursion, filter, list_any}
 use Rattle.std.proofs.lemmas.Bool.{false≢true}
@@ -10,18 +10,19 @@ use Rattle.ck_cfg.specs.declared.kind.CheckKind.{CheckKind}
 use Rattle.ck_cfg.specs.declared.kind.CheckKind.TheVariants as kind
 use Rattle.ck_cfg.specs.Checks.{checks_of, is_named}
 use Rattle.ck_cfg.specs.Kind.{is_kind, kind_name}
-use Rattle.ck_cfg.specs.Lawful.{HasLawfulChecks, IsCheck}
+use Rattle.ck_cfg.specs.Lawful.{HasLawfulChecks, IsCheck, least_cycle}
 use Rattle.ck_cover.specs.Laws.{IsTarget}
 use Rattle.ck_cover.specs.Targets.{targets_of}
 use Rattle.ck_cover.specs.declared.target.Target.{Target}
 use Rattle.ck_cover.proofs.Lawfulness.{lawful}
 use Rattle.vl_lower_spec.proofs.Graphic.{names_graphic}
-use Rattle.ck_gen.specs.Monitors.{HasProbe}
+use Rattle.ck_gen.specs.Monitors.{HasProbe, is_of_one_cycle}
+use Rattle.ck_induct.specs.OneCycle.{in_cycle}
 use Rattle.rvf_load.specs.Loads.{Answers, Asked, IsLoadedFrom}
 use Rattle.rvf_load.specs.declared.loaded.Loaded.{Loaded}
 use Rattle.rvf_case.specs.Cases.{IsFit, IsReady, text_among}
 use Rattle.rvf_case.specs.Steps.{AreLoadedInTurn, has_same}
-use Rattle.rvf_case.specs.Texts.{asked_for, is_same_text, leaders, only_named, questions_of}
+use Rattle.rvf_case.specs.Texts.{asked_for, is_same_text, leaders, of_one_cycle, only_named, questions_of}
 use Rattle.rvf_case.specs.declared.case.LoadedText.{LoadedText}
 use Rattle.rvf_case.proofs.Sames.{IsIn, equal_bytes, led}
 use Rattle.ck_ask.specs.Asked.{HasItsProbe, IsQuestion, IsZbCheck}
@@ -31,7 +32,9 @@ use Rattle.ck_ask.specs.declared.zb_check.ZbCheck.{ZbCheck}
 use Rattle.ck_ask.proofs.ZbLists.{zb_lawful}
 use Rattle.ck_ask.specs.declared.question.Question.{Question}
 use Rattle.ck_ask.specs.declared.question.Question.TheVariants as question
-use Rattle.rvf_case.specs.Askings.{Asking}
+use Rattle.rvf_case.specs.declared.asking.Asking.{Asking as RunAsking}
+use Rattle.rvf_case.specs.declared.asking.Asking.TheVariants as run
+use Rattle.rvf_case.specs.Askings.{Asking, InRange, asking_seen}
 use Rattle.rvf_case.specs.Askings as asking
 
 or_false : (a b : Bool) → a ≡ false → (a || b) ≡ true → b ≡ true
@@ -142,6 +145,14 @@ no_zb x [] i = i
 no_zb x (z ∷ zs) (inl e) = zb_apart x z e
 no_zb x (z ∷ zs) (inr i) = no_zb x zs i
 
+-- what is given of a number of steps
+pub in_range : (a : RunAsking) → InRange (asking_seen a)
+in_range run.Checks = tt
+in_range run.Targets = tt
+in_range run.Zb = tt
+in_range (run.Lengths steps) = (steps.some, steps.few)
+in_range (run.One name) = tt
+
 -- questions for things that are lawful
 all_lawful : {X : Type 0} (n : ℕ) (make : X → Question) (P : X → Type 0) (xs : List X)
     → ((x : X) → P x → IsQuestion n (make x)) → AllByRecursion P xs → AllByRecursion (IsQuestion n) (map make xs)
@@ -167,17 +178,67 @@ named_lawful P name (x ∷ xs) h = step (is_named name x) (named_lawful P name x
   step true k = (h.0, tt)
   step false k = k
 
-pub questions_lawful : (a : Asking) (c : Config) → HasLawfulChecks c
+-- so of checks of one cycle, in another cycle from 1 to 100
+least_small : (k : CheckKind) → least_cycle k ≤ 1
+least_small kind.Insn = omega arith
+least_small kind.Ill = omega arith
+least_small kind.Reg = omega arith
+least_small kind.PcFwd = omega arith
+least_small kind.PcBwd = omega arith
+least_small kind.Causal = omega arith
+least_small kind.Unique = omega arith
+least_small kind.Liveness = omega arith
+least_small kind.Imem = omega arith
+least_small kind.Dmem = omega arith
+
+in_cycle_lawful : (n k : ℕ) (x : Check) → 1 ≤ k → k ≤ 100 → IsCheck n x → IsCheck n (in_cycle x k)
+in_cycle_lawful n k x some few h = record {
+  lawful = record {
+    row = h.lawful.row;
+    start = omega arith;
+    trig = omega arith;
+    least = omega (arith, least_small x.kind, some);
+    most = few;
+  };
+  channel = h.channel;
+}
+
+lengths_lawful : (n k : ℕ) (xs : List Check) → 1 ≤ k → k ≤ 100 → AllByRecursion (IsCheck n) xs
+    → AllByRecursion (IsCheck n) (of_one_cycle k xs)
+lengths_lawful n k [] some few h = tt
+lengths_lawful n k (x ∷ xs) some few h = step (is_of_one_cycle x.kind) (lengths_lawful n k xs some few h.1) where
+  step : (b : Bool) → AllByRecursion (IsCheck n) (of_one_cycle k xs)
+      → AllByRecursion (IsCheck n)
+      (map (λ y. in_cycle y k) (cond b (x ∷ filter (λ y. is_of_one_cycle y.kind) xs) (filter (λ y. is_of_one_cycle y.kind) xs)))
+  step true r = (in_cycle_lawful n k x some few h.0, r)
+  step false r = r
+
+-- and each is that of a check
+length_in : (k : ℕ) (xs : List Check) (x : Check) → IsIn x (of_one_cycle k xs)
+    → (y : Check) × IsIn y xs × (x ≡ in_cycle y k)
+length_in k [] x i = absurd i
+length_in k (z ∷ zs) x i = step (is_of_one_cycle z.kind) (length_in k zs x) i where
+  step : (b : Bool) → (IsIn x (of_one_cycle k zs) → (y : Check) × IsIn y zs × (x ≡ in_cycle y k))
+      → IsIn x (map (λ y. in_cycle y k) (cond b (z ∷ filter (λ y. is_of_one_cycle y.kind) zs) (filter (λ y. is_of_one_cycle y.kind) zs)))
+      → (y : Check) × IsIn y (z ∷ zs) × (x ≡ in_cycle y k)
+  step true r (inl e) = (z, inl refl, e)
+  step true r (inr j) = let u = r j in (u.0, inr u.1, u.2)
+  step false r j = let u = r j in (u.0, inr u.1, u.2)
+
+pub questions_lawful : (a : Asking) (c : Config) → InRange a → HasLawfulChecks c
     → AllByRecursion (IsQuestion c.nret) (questions_of a c)
-questions_lawful asking.Checks c h =
+questions_lawful asking.Checks c r h =
     all_lawful c.nret (λ x. question.Check x) (IsCheck c.nret) (checks_of c) (λ x k. k) h
-questions_lawful asking.Targets c h =
+questions_lawful asking.Targets c r h =
     all_lawful c.nret (λ t. question.Target t) (IsTarget c.nret) (targets_of (checks_of c)) (λ t k. k)
     (lawful c.nret (checks_of c) h)
-questions_lawful asking.Zb c h =
+questions_lawful asking.Zb c r h =
     all_lawful c.nret (λ z. question.Zb z) (IsZbCheck c.nret) (zb_checks_of (checks_of c) c.nret) (λ z k. k)
     (zb_lawful c.nret (checks_of c) h)
-questions_lawful (asking.One name) c h =
+questions_lawful (asking.Lengths k) c r h =
+    all_lawful c.nret (λ x. question.Check x) (IsCheck c.nret) (of_one_cycle k (checks_of c)) (λ x k. k)
+    (lengths_lawful c.nret k (checks_of c) r.0 r.1 h)
+questions_lawful (asking.One name) c r h =
     all_lawful c.nret (λ x. question.Check x) (IsCheck c.nret) (only_named name (checks_of c)) (λ x k. k)
     (named_lawful (IsCheck c.nret) name (checks_of c) h)
 
@@ -189,6 +250,11 @@ check_has_probe asking.Checks c files qs leader x l i s h =
     has_probe c files qs leader x l (check_in x (checks_of c) i) s h x.kind refl
 check_has_probe asking.Targets c files qs leader x l i s h = absurd (no_target x (targets_of (checks_of c)) i)
 check_has_probe asking.Zb c files qs leader x l i s h = absurd (no_zb x (zb_checks_of (checks_of c) c.nret) i)
+check_has_probe (asking.Lengths k) c files qs leader x l i s h =
+    let y = length_in k (checks_of c) x (check_in x (of_one_cycle k (checks_of c)) i) in
+    let same : x.kind ≡ y.0.kind = ap (λ (z : Check). z.kind) y.2 in
+    subst (λ (k : CheckKind). HasProbe l.port k) (sym same)
+    (has_probe c files qs leader y.0 l y.1 (ap (is_same_text c leader) (sym same) ∙ s) h y.0.kind refl)
 check_has_probe (asking.One name) c files qs leader x l i s h =
     has_probe c files qs leader x l
     (named_in name (checks_of c) x (check_in x (only_named name (checks_of c)) i)) s h x.kind refl
@@ -230,11 +296,11 @@ fit_for a c files texts h n q k i =
 
 -- a case is ready
 pub ready : (a : Asking) (c : Config) (files : List (List ℕ)) (qs : List Question) (texts : List LoadedText)
-    → qs ≡ questions_of a c → AreLoadedInTurn (asked_for c files qs) (leaders c qs) texts
+    → qs ≡ questions_of a c → AreLoadedInTurn (asked_for c files qs) (leaders c qs) texts → InRange a
     → HasLawfulChecks c → c.nret ≤ 2 → IsReady (record { config = c; questions = qs; texts = texts })
-ready a c files qs texts e h l n =
+ready a c files qs texts e h r l n =
     let all = questions_of a c in
     let loaded = subst (λ (xs : List Question). AreLoadedInTurn (asked_for c files xs) (leaders c xs) texts) e h in
     subst (AllByRecursion (IsFitFor c texts)) (sym e)
-    (all_in (IsQuestion c.nret) (IsFitFor c texts) all all (questions_lawful a c l) (λ q i. i)
+    (all_in (IsQuestion c.nret) (IsFitFor c texts) all all (questions_lawful a c r l) (λ q i. i)
     (fit_for a c files texts loaded n))

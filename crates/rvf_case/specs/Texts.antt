@@ -12,6 +12,8 @@ use Rattle.ck_cfg.specs.declared.kind.CheckKind.TheVariants as kind
 use Rattle.ck_cfg.specs.Checks.{checks_of, is_named}
 use Rattle.ck_cfg.specs.Kind.{is_kind}
 use Rattle.ck_cover.specs.Targets.{targets_of}
+use Rattle.ck_gen.specs.Monitors.{is_of_one_cycle}
+use Rattle.ck_induct.specs.OneCycle.{in_cycle}
 use Rattle.vl_text.specs.Texts.{Text}
 use Rattle.vl_text.specs.declared.macros.Core.{Core}
 use Rattle.vl_text.specs.declared.macros.Retirements.{Retirements}
@@ -32,12 +34,17 @@ abbrev pub only_named : List ℕ → List Check → List Check
 only_named name [] = []
 only_named name (x ∷ xs) = if is_named name x then x ∷ [] else only_named name xs
 
--- one for each of its checks, of the targets of these, or of the checks of Zba and Zbs beside them, in their order;
--- or one for the check with a name
+-- of these checks those that look at one cycle alone, in this cycle
+abbrev pub of_one_cycle : ℕ → List Check → List Check
+of_one_cycle cycle xs = map (λ x. in_cycle x cycle) (filter (λ x. is_of_one_cycle x.kind) xs)
+
+-- One for each of its checks, of the targets of these, or of the checks of Zba and Zbs beside them, in their order. Or
+-- one for each check of one cycle, in the last cycle of an induction's base; or one for the check with a name.
 abbrev pub questions_of : Asking → Config → List Question
 questions_of asking.Checks c = map (λ x. question.Check x) (checks_of c)
 questions_of asking.Targets c = map (λ t. question.Target t) (targets_of (checks_of c))
 questions_of asking.Zb c = map (λ z. question.Zb z) (zb_checks_of (checks_of c) c.nret)
+questions_of (asking.Lengths steps) c = map (λ x. question.Check x) (of_one_cycle steps (checks_of c))
 questions_of (asking.One name) c = map (λ x. question.Check x) (only_named name (checks_of c))
 
 -- ---- a question's text: lines of the configuration, and then the files

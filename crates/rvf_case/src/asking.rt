@@ -6,12 +6,14 @@ ghost use Rattle.ck_cfg.specs.Checks.{is_named};
 ghost use Rattle.ck_ask.specs.declared.question.Question.TheVariants as question;
 ghost use Rattle.rvf_case.specs.Askings.{asking_seen, has_check};
 ghost use Rattle.rvf_case.specs.Steps.{Finds, IsRefusedName};
-ghost use Rattle.rvf_case.specs.Texts.{only_named, questions_of};
+ghost use Rattle.rvf_case.specs.Texts.{of_one_cycle, only_named, questions_of};
 
 use crate::refusal::Refusal;
+use crate::steps::Steps;
 use ck_ask::{Question, ZbCheck, zb_checks};
 use ck_cfg::{Check, Config, checks};
 use ck_cover::{Target, targets};
+use ck_induct::{in_cycle, is_of_one_cycle};
 use fv_text::{List, Memory, Text};
 use std::alloc::Global;
 
@@ -24,6 +26,8 @@ pub enum Asking<'a> {
     Targets,
     /// Whether each row of Zba and Zbs does what it says, where its checks of instructions are made.
     Zb,
+    /// Whether each of its checks that look at one cycle holds in runs of every length, by so many steps.
+    Lengths(Steps),
     /// Whether the check with this name holds.
     One(&'a [u8]),
 }
@@ -57,6 +61,27 @@ fn of_named(alloc: Global, name: &[u8], checks: List<Check>) -> Result<List<Ques
     let mut made = List::new(alloc);
     for check in checks.into_vec() {
         add_named(&mut made, check, name)?;
+    }
+    Ok(made)
+}
+
+/// Adds a question for a check, in this cycle, where it looks at one cycle alone.
+fn add_in_cycle(made: &mut List<Question>, check: Check, cycle: u32) -> Result<(), Memory>
+    ensures { OnOk result (made.new ≡ made.old ++ map (λ x. question.Check x) (of_one_cycle cycle (check ∷ []))) }
+{
+    if is_of_one_cycle(check.kind) {
+        made.push(Question::Check(in_cycle(check, cycle)))?;
+    }
+    Ok(())
+}
+
+/// A question for each of these checks that look at one cycle alone, in this cycle.
+fn of_lengths(alloc: Global, checks: List<Check>, cycle: u32) -> Result<List<Question>, Memory>
+    ensures { IfOk result (λ made. made ≡ map (λ x. question.Check x) (of_one_cycle cycle checks)) }
+{
+    let mut made = List::new(alloc);
+    for check in checks.into_vec() {
+        add_in_cycle(&mut made, check, cycle)?;
     }
     Ok(made)
 }
@@ -96,6 +121,7 @@ pub(crate) fn questions_of(
         Asking::Checks => of_checks(alloc, checks),
         Asking::Targets => of_targets(alloc, targets(alloc, checks.as_slice())?),
         Asking::Zb => of_zb_checks(alloc, zb_checks(alloc, checks.as_slice(), config.nret)?),
+        Asking::Lengths(steps) => of_lengths(alloc, checks, steps.number),
         Asking::One(name) => of_named(alloc, name, checks),
     }
 }
@@ -130,7 +156,7 @@ pub(crate) fn find_asked(alloc: Global, asking: Asking<'_>, config: &Config) -> 
     ensures { Finds (asking_seen asking.entry) config.now result }
 {
     match asking {
-        Asking::Checks | Asking::Targets | Asking::Zb => Ok(()),
+        Asking::Checks | Asking::Targets | Asking::Zb | Asking::Lengths(_) => Ok(()),
         Asking::One(name) => {
             if has_check(alloc, name, config)? {
                 Ok(())

@@ -33,7 +33,7 @@ impl Case {
     }
 
     /// What is loaded of the text of a kind.
-    fn loaded_of(&self, kind: CheckKind) -> Option<&Loaded>
+    pub fn loaded_of(&self, kind: CheckKind) -> Option<&Loaded>
         ensures { option_copied result ≡ text_among self.now.config kind self.now.texts }
     {
         for text in self.texts.as_slice() {

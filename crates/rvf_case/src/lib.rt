@@ -11,6 +11,7 @@ mod reading;
 mod refusal;
 mod same;
 mod shared;
+mod steps;
 
 pub use asking::Asking;
 pub use case::{Case, LoadedText};
@@ -18,3 +19,4 @@ pub use preparing::{Request, prepare};
 pub use reading::read_config;
 pub use refusal::Refusal;
 pub use rvf_load::LoadFault;
+pub use steps::Steps;

@@ -19,7 +19,7 @@ use Rattle.rvf_checks.specs.declared.wording.Wording.{Wording}
 use Rattle.rvf_checks.proofs.Counting.{joined, joined_more, joined_none, none_joined, status_is_theirs}
 
 -- the item at a place is the first of those from it on
-from_there : {A : Type 0} (xs : List A) (i : ℕ) (x : A) → slice_get xs i ≡ Some x → drop i xs ≡ x ∷ drop (i + 1) xs
+pub from_there : {A : Type 0} (xs : List A) (i : ℕ) (x : A) → slice_get xs i ≡ Some x → drop i xs ≡ x ∷ drop (i + 1) xs
 from_there [] zero x there = cc
 from_there [] (suc i) x there = cc
 from_there (y ∷ ys) zero x there = let same : y ≡ x = cc in ap (λ z. z ∷ ys) same

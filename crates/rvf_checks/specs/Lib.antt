@@ -4,3 +4,6 @@ pub mod Counting
 pub mod Answers
 pub mod Checked
 pub mod Known
+pub mod LengthCounting
+pub mod LengthLines
+pub mod Lengths

@@ -22,7 +22,8 @@ fn path(alloc: Global, folder: &[u8], name: &[u8], ending: &[u8]) -> Result<Text
     Ok(Text::from_vec(made))
 }
 
-fn file_of(
+/// A question's file in a folder, with what it holds.
+pub(crate) fn file_of(
     alloc: Global,
     folder: &[u8],
     name: &[u8],
@@ -36,7 +37,7 @@ fn file_of(
 }
 
 /// The two files of a certificate.
-fn files_of(
+pub(crate) fn files_of(
     alloc: Global,
     folder: &[u8],
     name: &[u8],
@@ -54,7 +55,7 @@ fn files_of(
 }
 
 /// The two files of a certificate, and then the line.
-fn certified(
+pub(crate) fn certified(
     alloc: Global,
     folder: &[u8],
     name: &[u8],
@@ -69,7 +70,7 @@ fn certified(
 }
 
 /// The file of a trace, and then the line.
-fn dumped(
+pub(crate) fn dumped(
     alloc: Global,
     folder: &[u8],
     name: &[u8],

@@ -65,7 +65,7 @@ fn put_skips(made: &mut List<Delivery>, alloc: Global, words: &[Text]) -> Result
 }
 
 /// The note, where a check asks for it, and then a line for each depth line that is skipped.
-fn head(alloc: Global, case: &Case) -> Result<List<Delivery>, Memory>
+pub(crate) fn head(alloc: Global, case: &Case) -> Result<List<Delivery>, Memory>
     ensures { IfOk result (λ made. made ≡ checked.head (checked.is_noted case.now) case.now.config.skips) }
 {
     let mut made = note_of(alloc, is_noted(case))?;

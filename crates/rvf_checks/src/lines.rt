@@ -44,7 +44,7 @@ pub(crate) fn skip_line(alloc: Global, kind: &[u8]) -> Result<Text, Memory>
 }
 
 /// A word and a number behind what is there.
-fn put_count(line: &mut Vec<u8>, word: &[u8], count: u64) -> Result<(), Memory>
+pub(crate) fn put_count(line: &mut Vec<u8>, word: &[u8], count: u64) -> Result<(), Memory>
     ensures { OnOk result (line.new.items ≡ line.old.items ++ lines.count_text word.now count) }
 {
     let mut buffer = Buffer::new();

@@ -67,6 +67,7 @@ task_leaves (Some (words.Lrat cnf proof)) own r status is = tt
 task_leaves (Some (words.Bench size)) own r status is = tt
 task_leaves (Some (words.Cover o)) own r status is = tt
 task_leaves (Some (words.Zb o)) own r status is = tt
+task_leaves (Some (words.Induct o steps)) own r status is = absurd (no_task own is)
 task_leaves (Some (words.Toaig cfg check file core basedir)) own r status is = absurd (no_task own is)
 task_leaves (Some (words.Fromaig aag cnf)) own r status is = absurd (no_task own is)
 

@@ -17,6 +17,7 @@ use Rattle.ck_ask.specs.declared.question.Question.{Question}
 use Rattle.ck_ask.specs.declared.question.Question.TheVariants as question
 use Rattle.ck_design.specs.Findings.{IsFound}
 use Rattle.ck_design.proofs.Found.{found_violates}
+use Rattle.ck_gen.specs.Monitors.{is_of_one_cycle}
 use Rattle.rvf_case.specs.Loads.{design_of}
 use Rattle.rvf_judge.specs.declared.judged.CertificateTexts.{CertificateTexts}
 use Rattle.rvf_judge.specs.declared.judged.Judged.{Judged}
@@ -24,6 +25,7 @@ use Rattle.rvf_judge.specs.declared.judged.Judged.TheVariants as judged
 use Rattle.rvf_words.specs.Line.{line_of}
 use Rattle.rvf_words.specs.declared.line.Line.{Line as Words}
 use Rattle.rvf_words.specs.declared.line.Line.TheVariants as words
+use Rattle.rvf_words.specs.declared.line.Options.{Options}
 use Rattle.rvf_case.specs.Cases.{Request, Seen, questions_in}
 use Rattle.rvf_case.specs.Texts.{questions_of}
 use Rattle.rvf_case.specs.Askings as asking
@@ -37,11 +39,13 @@ use Rattle.rvf_core.specs.Checks as checks
 use Rattle.rvf_core.specs.Bench as bench
 use Rattle.rvf_core.specs.Exports.{Exports, check_request}
 use Rattle.rvf_core.specs.Exports as exports
-use Rattle.rvf_core.specs.Run.{AsksGraph, Answered, Answers, AreAccepted, Asks, Ends, HasCounts, IsAccepted, IsExact, Run, Says}
+use Rattle.rvf_core.specs.Lengths.{LengthsAre, ViolatesWithin, length_request}
+use Rattle.rvf_core.specs.Run.{AsksGraph, AsksLengths, Answered, Answers, AreAccepted, Asks, Ends, HasCounts, IsAccepted, IsExact}
+use Rattle.rvf_core.specs.Run.{Run, Says}
 use Rattle.rvf_core.specs.Run.{comes, of_bench, of_files}
 use Rattle.rvf_core.specs.Run.{comes_in_budget}
 use Rattle.rvf_core.specs.Run.{comes_judged, rose, says_reads, seen_in}
-use Rattle.rvf_core.specs.Steps.{HaveStatus}
+use Rattle.rvf_core.specs.Steps.{HaveStatus, Leaves}
 use Rattle.rvf_core.specs.Tasks.{Task}
 use Rattle.rvf_core.specs.Verdicts.{AreJudged, Gives, IsGiven, IsUnmet, Judges, QuestionFails, Violates}
 use Rattle.rvf_core.specs.Verdicts.{check_questions, opts_in, text_for, text_of, wants_in}
@@ -51,6 +55,7 @@ use Rattle.rvf_core.proofs.Causes.{moved, uncaused}
 use Rattle.rvf_core.proofs.Failures.{failure_comes}
 use Rattle.rvf_core.proofs.GraphMade.{graph_known, made_exact}
 use Rattle.rvf_core.proofs.Graphs.{encoded_exact}
+use Rattle.rvf_core.proofs.LengthExact.{length_fail_said, lengths_said}
 use Rattle.rvf_core.proofs.Others.{same_said}
 use Rattle.rvf_core.proofs.Members.{from_contains, in_map, to_contains}
 use Rattle.rvf_core.proofs.Statuses.{IsClear, all_clear, by_verdict, comes_Memory, comes_WriteFault, comes_itself}
@@ -372,6 +377,42 @@ graph_comes cfg check file core basedir r status a asks c fs read unrefused =
         absurd (uncaused q asks.names r.before.misses r.now.misses r.before.faults r.now.faults c fs asks.no_fault
         (subst (λ held. HasRead q held c fs) asks.told read) unrefused x.refusal x.cause)
 
+-- ---- runs of every length
+
+module _ (o : Options) (steps : ℕ) (r : Run) (status : Status) (a : Answers status r) (asks : AsksLengths r o steps)
+    (c : Config) (fs : List (List ℕ)) (read : HasRead (length_request o steps) r.before.held c fs)
+    (unrefused : AreAccepted c fs (questions_in (length_request o steps) c)) where
+  told_lengths : (report : List Delivery)
+      → LengthsAre (length_request o steps) (seen_in r) o.outdir steps o.budget status report
+      → LengthsAre (length_request o steps) (seen_told asks.names r) o.outdir steps o.budget status report
+  told_lengths report x = subst (λ held. LengthsAre (length_request o steps) (record {
+    held = held;
+    misses = r.before.misses;
+    misses_now = r.now.misses;
+    faults = r.before.faults;
+    faults_now = r.now.faults;
+  }) o.outdir steps o.budget status report) asks.told x
+
+  told_read : HasRead (length_request o steps) (Some asks.names) c fs
+  told_read = subst (λ held. HasRead (length_request o steps) held c fs) asks.told read
+
+  -- where nothing is refused all checks are answered
+  lengths_come : comes_judged status ≡ true
+  lengths_come =
+      by_cause comes_judged refl refl (Some (words.Induct o steps)) r status
+      (under r (Some (words.Induct o steps)) status asks.asked a)
+      (λ report says. lengths_said o steps asks.names r.before.misses r.now.misses r.before.faults r.now.faults
+      asks.no_fault c fs told_read unrefused status report (told_lengths report says))
+
+  length_fail_comes : (x : Check) → Contains (checks_of c) x → is_of_one_cycle x.kind ≡ true
+      → ViolatesWithin c fs (questions_in (length_request o steps) c) steps x
+      → comes_in_budget s.Failing status ≡ true
+  length_fail_comes x there one v =
+      by_cause (comes_in_budget s.Failing) refl refl (Some (words.Induct o steps)) r status
+      (under r (Some (words.Induct o steps)) status asks.asked a)
+      (λ report says. length_fail_said o steps asks.names r.before.misses r.now.misses r.before.faults r.now.faults
+      asks.no_fault c fs told_read unrefused status report x (told_lengths report says) there one v)
+
 -- ---- checks
 
 -- a check fails exactly where a run violates it
@@ -446,6 +487,13 @@ IsExact-answers r status a statuses counts = record {
       f cause;
   graph = λ cfg check file core basedir c fs asks read unrefused.
       graph_comes cfg check file core basedir r status a asks c fs read unrefused;
+  no_length = λ o steps f asks cause.
+      let left : Leaves (Some (words.Induct o steps)) r status =
+      subst (λ line. Leaves line r status) asks.asked statuses.leaves in
+      left asks.names asks.told asks.no_fault f cause;
+  lengths = λ o steps c fs asks read unrefused. lengths_come o steps r status a asks c fs read unrefused;
+  length_fails = λ o steps c fs x asks read unrefused there one v.
+      length_fail_comes o steps r status a asks c fs read unrefused x there one v;
   other = λ asked wanted report h says.
       by_cause (comes wanted) (comes_WriteFault wanted) (comes_Memory wanted) (Some asked) r status
       (under r (Some asked) status h.asked_is a)

@@ -22,6 +22,8 @@ use Rattle.rvf_core.specs.Checks.{Checks, checks_reads}
 use Rattle.rvf_core.specs.Checks as checks
 use Rattle.rvf_core.specs.Encodes as encodes
 use Rattle.rvf_core.specs.Exports as exports
+use Rattle.rvf_core.specs.Lengths.{LengthsAre, length_request, lengths_reads}
+use Rattle.rvf_core.specs.Lengths as lengths
 use Rattle.rvf_core.specs.Lists.{Lists, lists_reads}
 use Rattle.rvf_core.specs.Lists as lists
 use Rattle.rvf_core.specs.Run.{Answered, Says, answered_reads, comes, says_reads}
@@ -180,6 +182,18 @@ exports_comes cfg check file core basedir seen status report (exports.exported x
 exports_comes cfg check file core basedir seen status report (exports.refused x) name there =
     refused_comes x.refusal (exports.check_request cfg check core basedir) seen status x.cause name x.status_is there
 
+-- ---- runs of every length
+
+lengths_come : (q : Request) (seen : Seen) (folder : List ℕ) (steps budget : ℕ) (status : Status)
+    (report : List Delivery) (x : LengthsAre q seen folder steps budget status report) (name : List ℕ)
+    → Contains (lengths_reads q seen folder steps budget status report x) (Failed name)
+    → comes s.ReadFault status ≡ true
+lengths_come q seen folder steps budget status report (lengths.answered x) name there =
+    absurd (none_failed (all_gave q x.read.configured.bytes (names_in q x.config) x.files) name
+    (all_answered q x.read.configured.bytes (names_in q x.config) x.files) there)
+lengths_come q seen folder steps budget status report (lengths.refused x) name there =
+    refused_comes x.refusal q seen status x.cause name x.status_is there
+
 -- ---- all
 
 pub failure_comes : (asked : Option Words) (seen : Seen) (status : Status) (report : List Delivery)
@@ -197,6 +211,8 @@ failure_comes (Some (words.Cover o)) seen status report x name there =
     task_comes (cover_task o) seen status report x name there
 failure_comes (Some (words.Zb o)) seen status report x name there =
     task_comes (zb_task o) seen status report x name there
+failure_comes (Some (words.Induct o steps)) seen status report x name there =
+    lengths_come (length_request o steps) seen o.outdir steps o.budget status report x name there
 failure_comes (Some (words.Toaig cfg check file core basedir)) seen status report x name there =
     exports_comes cfg check file core basedir seen status report x name there
 failure_comes (Some (words.Fromaig aag cnf)) seen status report x name there =

@@ -8,6 +8,7 @@ use Rattle.fv_text.specs.declared.memory.Memory.{Memory}
 use Rattle.rvf_words.specs.Line.{line_of}
 use Rattle.rvf_words.specs.declared.line.Line.{Line as Words}
 use Rattle.rvf_words.specs.declared.line.Line.TheVariants as words
+use Rattle.rvf_words.specs.declared.line.Options.{Options}
 use Rattle.rvf_case.specs.Hearing.{AreReadOn, HeardMore}
 use Rattle.rvf_case.specs.Hearing as hearing
 use Rattle.rvf_report.specs.Outcome.{Outside}
@@ -210,6 +211,7 @@ none_on (Some (words.Lrat cnf proof)) = tt
 none_on (Some (words.Bench size)) = refl
 none_on (Some (words.Cover o)) = tt
 none_on (Some (words.Zb o)) = tt
+none_on (Some (words.Induct o steps)) = tt
 none_on (Some (words.Toaig cfg check file core basedir)) = tt
 none_on (Some (words.Fromaig aag cnf)) = tt
 
@@ -232,6 +234,7 @@ none_left (Some (words.Lrat cnf proof)) r same = tt
 none_left (Some (words.Bench size)) r same = tt
 none_left (Some (words.Cover o)) r same = tt
 none_left (Some (words.Zb o)) r same = tt
+none_left (Some (words.Induct o steps)) r same = λ names told no_fault f cause. comes_Memory (refused_status f)
 none_left (Some (words.Toaig cfg check file core basedir)) r same = record {
   causes = λ names told no_fault f cause. comes_Memory (refused_status f);
   leaves = λ is t d. nothing_written r.before r.now file t.text (graph_line t.inputs t.gates) d same;
@@ -306,6 +309,13 @@ module _ (l : Words) (r : Run) (status : Status) where
   fromaig_statuses graph cnf b e q left =
       no_statuses (Some l) r status (ap task_of e)
       (subst (λ line. Leaves (Some line) r status) (ap (λ z. words.Fromaig graph z) q ∙ sym e) left)
+
+  module _ (w : Words) (o : Options) (steps : ℕ) (is : l ≡ words.Induct o steps) (seen : w ≡ words.Induct o steps) where
+    pub induct_ends : Ends (Some w) r status → Ends (Some l) r status
+    induct_ends x = subst (λ line. Ends (Some line) r status) (seen ∙ sym is) x
+
+    pub induct_statuses : HaveStatus (Some w) r status → HaveStatus (Some l) r status
+    induct_statuses x = subst (λ line. HaveStatus (Some line) r status) (seen ∙ sym is) x
 
   module _ (cfg check file core basedir a b d e f : List ℕ) (is : l ≡ words.Toaig cfg check file core basedir)
       (p : a ≡ cfg) (q : b ≡ check) (u : d ≡ file) (v : e ≡ core) (w : f ≡ basedir) where

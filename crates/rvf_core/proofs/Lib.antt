@@ -9,6 +9,7 @@ pub mod Endings
 pub mod Others
 pub mod Quiet
 pub mod Failures
+pub mod LengthExact
 pub mod Exact
 pub mod FromFiles
 pub mod FromGraphs
@@ -17,10 +18,13 @@ pub mod Halves
 pub mod ExportLaws
 pub mod GraphMade
 pub mod FromChecks
+pub mod Inducting
+pub mod LengthEndings
 pub mod FromWords
 pub mod FromBench
 pub mod Asking
 pub mod Passes
+pub mod Proves
 pub mod Members
 pub mod Instructions
 pub mod BenchText

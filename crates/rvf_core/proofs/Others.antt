@@ -202,6 +202,7 @@ module _ (names : Names) (misses misses_now faults faults_now : ℕ) (no_fault :
   same_told (words.Bench size) is status wanted report other x y = absurd is
   same_told (words.Cover o) is status wanted report other x y = absurd is
   same_told (words.Zb o) is status wanted report other x y = absurd is
+  same_told (words.Induct o steps) is status wanted report other x y = absurd is
   same_told (words.Toaig cfg check file core basedir) is status wanted report other x y = absurd is
   same_told (words.Fromaig aag cnf) is status wanted report other x y =
       same_encodings aag cnf status wanted report other x y

@@ -51,17 +51,17 @@ use Rattle.rvf_core.proofs.Later.{part_pass}
 
 -- ---- lines by their first byte, and names before the end of a line
 
-abbrev first : List ℕ → ℕ
+abbrev pub first : List ℕ → ℕ
 first [] = 0
 first (b ∷ bs) = b
 
-same_line : (a b : List ℕ) → Line a ≡ Line b → a ≡ b
+pub same_line : (a b : List ℕ) → Line a ≡ Line b → a ≡ b
 same_line a b e = cc
 
-same_put : (a b : List ℕ) → Put a ≡ Put b → a ≡ b
+pub same_put : (a b : List ℕ) → Put a ≡ Put b → a ≡ b
 same_put a b e = cc
 
-no_file : (name bytes line : List ℕ) → File name bytes ≡ Line line → ⊥
+pub no_file : (name bytes line : List ℕ) → File name bytes ≡ Line line → ⊥
 no_file name bytes line e = cc
 
 never_nothing : (xs : List ℕ) (y : ℕ) → [] ≡ xs ++ y ∷ [] → ⊥
@@ -71,7 +71,7 @@ never_nothing (x ∷ xs) y e = cc
 same_tail : (x y : ℕ) (xs ys : List ℕ) → x ∷ xs ≡ y ∷ ys → xs ≡ ys
 same_tail x y xs ys e = cc
 
-same_before : (z : ℕ) (xs ys : List ℕ) → xs ++ z ∷ [] ≡ ys ++ z ∷ [] → xs ≡ ys
+pub same_before : (z : ℕ) (xs ys : List ℕ) → xs ++ z ∷ [] ≡ ys ++ z ∷ [] → xs ≡ ys
 same_before z [] [] e = refl
 same_before z [] (y ∷ ys) e = absurd (never_nothing ys z (same_tail z y [] (ys ++ z ∷ []) e))
 same_before z (x ∷ xs) [] e = absurd (never_nothing xs z (sym (same_tail x z (xs ++ z ∷ []) [] e)))
@@ -178,7 +178,7 @@ module _ (name : List ℕ) (Meant : Type 0) where
   source_other names (load.Port f) = refl
   source_other names load.Memory = refl
 
-  refused_other : (f : Refusal) → (first (refusal_line f) == 112) ≡ false
+  pub refused_other : (f : Refusal) → (first (refusal_line f) == 112) ≡ false
   refused_other (refusal.Absent n) = refl
   refused_other (refusal.Unread n) = refl
   refused_other (refusal.Config f) = refl

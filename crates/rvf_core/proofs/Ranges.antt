@@ -11,7 +11,8 @@ use Rattle.rvf_words.specs.declared.line.Line.{Line}
 use Rattle.rvf_words.specs.declared.line.Line.TheVariants as line
 use Rattle.rvf_words.specs.declared.line.Options.{Options}
 use Rattle.rvf_words.specs.Line.{asked, bench_line, budget_of, count_of, cover_line, cubes_of, jobs_of, line_of}
-use Rattle.rvf_words.specs.Line.{fromaig_line, list_line, lrat_line, options_in, run_line, size_of, toaig_line, zb_line}
+use Rattle.rvf_words.specs.Line.{fromaig_line, induct_line, list_line, lrat_line, options_in, run_line, size_of}
+use Rattle.rvf_words.specs.Line.{steps_of, toaig_line, zb_line}
 use Rattle.rvf_words.specs.Table.{program}
 use Rattle.rvf_core.specs.Run.{IsLine}
 
@@ -142,6 +143,14 @@ zb_in_range : (rows : List Row) → IfSome (zb_line rows) IsLine
 zb_in_range rows =
     if_mapped AreInRange IsLine (λ o. line.Zb o) (options_in rows) (options_in_range rows) (λ o is. is)
 
+induct_in_range : (rows : List Row) → IfSome (induct_line rows) IsLine
+induct_in_range rows =
+    if_then AreInRange IsLine _ (options_in rows) (options_in_range rows) (λ o is.
+    if_mapped (IsCount 100) IsLine (λ steps. line.Induct o steps)
+    (option_and_then steps_of (first_of (codes "steps") rows))
+    (if_next (IsCount 100) steps_of (first_of (codes "steps") rows) (counted 100))
+    (λ steps in_range. (is.0, is.1, is.2, in_range.0, in_range.1)))
+
 toaig_in_range : (rows : List Row) → IfSome (toaig_line rows) IsLine
 toaig_in_range rows =
     if_next IsLine _ (first_of (codes "cfg") rows) (λ cfg. if_next IsLine _ (first_of (codes "check") rows) (λ check.
@@ -163,6 +172,7 @@ asked_in_range name rows =
     else if bytes_eq name (codes "bench") then bench_line rows
     else if bytes_eq name (codes "cover") then cover_line rows
     else if bytes_eq name (codes "zb") then zb_line rows
+    else if bytes_eq name (codes "induct") then induct_line rows
     else if bytes_eq name (codes "toaig") then toaig_line rows
     else if bytes_eq name (codes "fromaig") then fromaig_line rows else None) (run_in_range rows)
     (if_chosen IsLine (bytes_eq name (codes "list")) (list_line rows)
@@ -170,29 +180,37 @@ asked_in_range name rows =
     else if bytes_eq name (codes "bench") then bench_line rows
     else if bytes_eq name (codes "cover") then cover_line rows
     else if bytes_eq name (codes "zb") then zb_line rows
+    else if bytes_eq name (codes "induct") then induct_line rows
     else if bytes_eq name (codes "toaig") then toaig_line rows
     else if bytes_eq name (codes "fromaig") then fromaig_line rows else None) (list_in_range rows)
     (if_chosen IsLine (bytes_eq name (codes "lrat")) (lrat_line rows)
     (if bytes_eq name (codes "bench") then bench_line rows
     else if bytes_eq name (codes "cover") then cover_line rows
     else if bytes_eq name (codes "zb") then zb_line rows
+    else if bytes_eq name (codes "induct") then induct_line rows
     else if bytes_eq name (codes "toaig") then toaig_line rows
     else if bytes_eq name (codes "fromaig") then fromaig_line rows else None) (lrat_in_range rows)
     (if_chosen IsLine (bytes_eq name (codes "bench")) (bench_line rows)
     (if bytes_eq name (codes "cover") then cover_line rows
     else if bytes_eq name (codes "zb") then zb_line rows
+    else if bytes_eq name (codes "induct") then induct_line rows
     else if bytes_eq name (codes "toaig") then toaig_line rows
     else if bytes_eq name (codes "fromaig") then fromaig_line rows else None) (bench_in_range rows)
     (if_chosen IsLine (bytes_eq name (codes "cover")) (cover_line rows)
     (if bytes_eq name (codes "zb") then zb_line rows
+    else if bytes_eq name (codes "induct") then induct_line rows
     else if bytes_eq name (codes "toaig") then toaig_line rows
     else if bytes_eq name (codes "fromaig") then fromaig_line rows else None) (cover_in_range rows)
     (if_chosen IsLine (bytes_eq name (codes "zb")) (zb_line rows)
-    (if bytes_eq name (codes "toaig") then toaig_line rows
+    (if bytes_eq name (codes "induct") then induct_line rows
+    else if bytes_eq name (codes "toaig") then toaig_line rows
     else if bytes_eq name (codes "fromaig") then fromaig_line rows else None) (zb_in_range rows)
+    (if_chosen IsLine (bytes_eq name (codes "induct")) (induct_line rows)
+    (if bytes_eq name (codes "toaig") then toaig_line rows
+    else if bytes_eq name (codes "fromaig") then fromaig_line rows else None) (induct_in_range rows)
     (if_chosen IsLine (bytes_eq name (codes "toaig")) (toaig_line rows)
     (if bytes_eq name (codes "fromaig") then fromaig_line rows else None) (toaig_in_range rows)
-    (if_kept IsLine (bytes_eq name (codes "fromaig")) (fromaig_line rows) (fromaig_in_range rows))))))))
+    (if_kept IsLine (bytes_eq name (codes "fromaig")) (fromaig_line rows) (fromaig_in_range rows)))))))))
 
 line_in_range : (words : List (List ℕ)) → IfSome (line_of words) IsLine
 line_in_range words =

@@ -28,7 +28,7 @@ spent_failing e = cc
 pub passed_failing : s.Passed ≡ s.Failing → ⊥
 passed_failing e = cc
 
-chosen : (fails spends : Bool)
+pub chosen : (fails spends : Bool)
     → IsVerdict (if fails then s.Failing else if spends then s.Spent else s.Passed)
 chosen true spends = fail refl
 chosen false true = spent refl
@@ -42,7 +42,7 @@ pub record IsClear (q : Question) (j : Judged) : Type 0 where
   pub clear : fails q j ≡ false
   pub answered : is_spent j ≡ false
 
-clear_of : (fail fails spend spends : Bool)
+pub clear_of : (fail fails spend spends : Bool)
     → (if fail || fails then s.Failing else if spend || spends then s.Spent else s.Passed) ≡ s.Passed
     → (fail ≡ false) × (spend ≡ false)
     × ((if fails then s.Failing else if spends then s.Spent else s.Passed) ≡ s.Passed)

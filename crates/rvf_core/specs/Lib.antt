@@ -7,12 +7,14 @@ pub mod Certificate
 pub mod Certifies
 pub mod Encodes
 pub mod Exports
+pub mod Lengths
 pub mod Unread
 pub mod InsnLaw
 pub mod Pass
 pub mod PassLaw
 pub mod Puts
 pub mod Run
+pub mod ProvedLaw
 pub mod Steps
 pub mod Works
 pub mod Statuses

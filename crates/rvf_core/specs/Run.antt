@@ -11,10 +11,12 @@ use Rattle.vl_size.specs.Size.{Values}
 use Rattle.ck_cfg.specs.declared.check.Check.{Check}
 use Rattle.ck_cfg.specs.declared.config.Config.{Config}
 use Rattle.ck_cfg.specs.Checks.{checks_of}
+use Rattle.ck_gen.specs.Monitors.{is_of_one_cycle}
 use Rattle.ck_ask.specs.declared.question.Question.{Question}
 use Rattle.rvf_graph.specs.Clauses.{IsClauseText}
 use Rattle.rvf_words.specs.declared.line.Line.{Line as Words}
 use Rattle.rvf_words.specs.declared.line.Line.TheVariants as words
+use Rattle.rvf_words.specs.declared.line.Options.{Options}
 use Rattle.rvf_words.specs.Line.{line_of}
 use Rattle.rvf_case.specs.Cases.{Seen, AreUnrefused, IsCause, questions_in}
 use Rattle.rvf_case.specs.Hearing.{AreReadOn, HeardMore}
@@ -33,6 +35,7 @@ use Rattle.rvf_core.specs.Certifies.{Certifies, certifies_reads}
 use Rattle.rvf_core.specs.Checks.{Checks, HasRead, IsBegun, checks_reads, has_reads, refused_status}
 use Rattle.rvf_core.specs.Encodes.{Encodes, encodes_reads, graph_report}
 use Rattle.rvf_core.specs.Exports.{Exports, IsExported, check_request, exports_reads}
+use Rattle.rvf_core.specs.Lengths.{AreBegun, LengthsAre, ViolatesWithin, length_request, lengths_reads}
 use Rattle.rvf_core.specs.Lists.{Lists, lists_reads}
 use Rattle.rvf_core.specs.Tasks.{Task, bench_task, task_asked, task_of}
 use Rattle.rvf_core.specs.Verdicts.{QuestionFails, Violates}
@@ -61,6 +64,8 @@ abbrev pub IsLine : Words → Type 0
 IsLine (words.Run cfg outdir core basedir budget jobs cubes) = (0 < budget) × (1 ≤ jobs) × (jobs ≤ 64) × (cubes ≤ 6)
 IsLine (words.Cover o) = (0 < o.budget) × (1 ≤ o.jobs) × (o.jobs ≤ 64)
 IsLine (words.Zb o) = (0 < o.budget) × (1 ≤ o.jobs) × (o.jobs ≤ 64)
+IsLine (words.Induct o steps) =
+    (0 < o.budget) × (1 ≤ o.jobs) × (o.jobs ≤ 64) × (1 ≤ steps) × (steps ≤ 100)
 IsLine line = Unit {0}
 
 -- the operands and options of a word that asks for questions of a configuration
@@ -72,7 +77,8 @@ usage_line =
     codes "usage: rvf run " ++ (options_text
     ++ (codes " [--cubes N] | list CFG | lrat CNF PROOF | bench N | cover " ++ (options_text
     ++ (codes " | zb " ++ (options_text
-    ++ codes " | toaig CFG CHECK FILE [--core NAME] [--basedir DIR] | fromaig AAG CNF\n")))))
+    ++ (codes " | induct " ++ (options_text
+    ++ codes " [--steps K] | toaig CFG CHECK FILE [--core NAME] [--basedir DIR] | fromaig AAG CNF\n")))))))
 
 -- other words
 pub record Misuses (status : Status) (report : List Delivery) : Type 0 where
@@ -98,6 +104,8 @@ abbrev pub SaysOther : Words → Seen → Status → List Delivery → Type 0
 SaysOther (words.List cfg) seen status report = Lists cfg seen status report
 SaysOther (words.Lrat cnf proof) seen status report = Certifies cnf proof seen status report
 SaysOther (words.Bench size) seen status report = Benches size status report
+SaysOther (words.Induct o steps) seen status report =
+    LengthsAre (length_request o steps) seen o.outdir steps o.budget status report
 SaysOther (words.Toaig cfg check file core basedir) seen status report =
     Exports cfg check file core basedir seen status report
 SaysOther (words.Fromaig aag cnf) seen status report = Encodes aag cnf seen status report
@@ -117,6 +125,8 @@ Says (Some asked) seen status report = SaysBy (task_of asked) asked seen status 
 abbrev pub BeginsBy : Option Task → Words → Seen → List Delivery → Type 0
 BeginsBy (Some t) asked seen report = AnswersBegin t seen.held report
 BeginsBy None (words.Bench size) seen report = AnswersBegin (bench_task size) (Some (bench.held_of size)) report
+BeginsBy None (words.Induct o steps) seen report =
+    AreBegun (length_request o steps) seen.held o.outdir steps o.budget report
 BeginsBy None asked seen report = ⊥
 
 abbrev pub Begins : Option Words → Seen → List Delivery → Type 0
@@ -146,6 +156,8 @@ abbrev pub other_reads : (asked : Words) (seen : Seen) (status : Status) (report
     → SaysOther asked seen status report → List Event
 other_reads (words.List cfg) seen status report says = lists_reads cfg seen status report says
 other_reads (words.Lrat cnf proof) seen status report says = certifies_reads cnf proof seen status report says
+other_reads (words.Induct o steps) seen status report says =
+    lengths_reads (length_request o steps) seen o.outdir steps o.budget status report says
 other_reads (words.Toaig cfg check file core basedir) seen status report says =
     exports_reads cfg check file core basedir seen status report says
 other_reads (words.Fromaig aag cnf) seen status report says = encodes_reads aag cnf seen status report says
@@ -166,6 +178,8 @@ says_reads (Some asked) seen status report says = reads_by (task_of asked) asked
 abbrev pub begun_by : (task : Option Task) (asked : Words) (seen : Seen) (report : List Delivery)
     → BeginsBy task asked seen report → List Event
 begun_by (Some t) asked seen report h = begun_reads t seen.held report h
+begun_by None (words.Induct o steps) seen report h =
+    has_reads (length_request o steps) seen.held h.config h.files h.read
 begun_by None asked seen report h = []
 
 abbrev pub begins_reads : (asked : Option Words) (seen : Seen) (report : List Delivery) → Begins asked seen report
@@ -177,6 +191,7 @@ begins_reads (Some asked) seen report h = begun_by (task_of asked) asked seen re
 abbrev pub IsOtherReadOn : Words → List Event → Type 0
 IsOtherReadOn (words.List cfg) events = AreReadOn (cfg ∷ []) events
 IsOtherReadOn (words.Lrat cnf proof) events = AreReadOn (cnf ∷ (proof ∷ [])) events
+IsOtherReadOn (words.Induct o steps) events = hearing.IsReadOn (length_request o steps) events
 IsOtherReadOn (words.Toaig cfg check file core basedir) events =
     hearing.IsReadOn (check_request cfg check core basedir) events
 IsOtherReadOn (words.Fromaig aag cnf) events = AreReadOn (aag ∷ []) events
@@ -269,12 +284,20 @@ IsOther (words.Run cfg outdir core basedir budget jobs cubes) = ⊥
 IsOther (words.Bench size) = ⊥
 IsOther (words.Cover o) = ⊥
 IsOther (words.Zb o) = ⊥
+IsOther (words.Induct o steps) = ⊥
 IsOther (words.Toaig cfg check file core basedir) = ⊥
 IsOther asked = Unit {0}
 
 pub record AsksOther (r : Run) (asked : Words) : Type 0 where
   pub asked_is : line_of r.words ≡ Some asked
   pub other : IsOther asked
+  pub names : Names
+  pub told : r.before.held ≡ Some names
+  pub no_fault : rose r.before.faults r.now.faults ≡ false
+
+-- the words ask for runs of every length, the files are told, and no read or write failed
+pub record AsksLengths (r : Run) (o : Options) (steps : ℕ) : Type 0 where
+  pub asked : line_of r.words ≡ Some (words.Induct o steps)
   pub names : Names
   pub told : r.before.held ≡ Some names
   pub no_fault : rose r.before.faults r.now.faults ≡ false
@@ -368,3 +391,16 @@ pub record IsExact (status : Status) (r : Run) : Type 0 where
       → AsksGraph r cfg check file core basedir
       → HasRead (check_request cfg check core basedir) r.before.held c files
       → AreAccepted c files (questions_in (check_request cfg check core basedir) c) → comes s.Passed status ≡ true
+  -- of runs of every length: each cause why no check is answered has its status
+  pub no_length : (o : Options) (steps : ℕ) (f : Refusal) → AsksLengths r o steps
+      → IsCause (length_request o steps) (seen_in r) f → comes (refused_status f) status ≡ true
+  -- where no cause is there, all checks are answered
+  pub lengths : (o : Options) (steps : ℕ) (c : Config) (files : List (List ℕ)) → AsksLengths r o steps
+      → HasRead (length_request o steps) r.before.held c files
+      → AreAccepted c files (questions_in (length_request o steps) c) → comes_judged status ≡ true
+  -- and where some run up to the last cycle of the base violates a check of one cycle, it fails
+  pub length_fails : (o : Options) (steps : ℕ) (c : Config) (files : List (List ℕ)) (x : Check) → AsksLengths r o steps
+      → HasRead (length_request o steps) r.before.held c files
+      → AreAccepted c files (questions_in (length_request o steps) c) → Contains (checks_of c) x
+      → is_of_one_cycle x.kind ≡ true → ViolatesWithin c files (questions_in (length_request o steps) c) steps x
+      → comes_in_budget s.Failing status ≡ true

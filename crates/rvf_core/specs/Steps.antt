@@ -27,6 +27,7 @@ use Rattle.rvf_core.specs.Certifies.{Certifies, certifies_reads}
 use Rattle.rvf_core.specs.Checks.{refused_status}
 use Rattle.rvf_core.specs.Encodes.{Encodes, IsEncoding, encodes_reads, graph_report}
 use Rattle.rvf_core.specs.Exports.{Exports, check_request, exports_reads, graph_file}
+use Rattle.rvf_core.specs.Lengths.{length_request}
 use Rattle.rvf_core.specs.Lists.{Lists, lists_reads}
 use Rattle.rvf_core.specs.Run.{Run, comes, rose, seen_in}
 use Rattle.rvf_core.specs.Tasks.{Task, task_asked}
@@ -56,6 +57,7 @@ abbrev pub Leaves : Option Words → Run → Status → Type 0
 Leaves (Some (words.Toaig cfg check file core basedir)) r status =
     HaveGraph (check_request cfg check core basedir) file r status
 Leaves (Some (words.Fromaig aag cnf)) r status = LeavesGraph cnf r status
+Leaves (Some (words.Induct o steps)) r status = HaveCauses (length_request o steps) r status
 Leaves asked r status = Unit {0}
 
 -- whatever the words ask for of files that are given

@@ -13,6 +13,7 @@ use crate::certifying::refute;
 use crate::checking::check;
 use crate::encoding::encode;
 use crate::exporting::{ExportRequest, export};
+use crate::lengths::{LengthRequest, lengths};
 use crate::listing::list;
 use crate::report::Report;
 use crate::reporting::put_report;
@@ -33,6 +34,7 @@ const USAGE: &[u8] =
 | list CFG | lrat CNF PROOF | bench N \
 | cover CFG OUTDIR [--core NAME] [--basedir DIR] [--budget N] [--jobs N] \
 | zb CFG OUTDIR [--core NAME] [--basedir DIR] [--budget N] [--jobs N] \
+| induct CFG OUTDIR [--core NAME] [--basedir DIR] [--budget N] [--jobs N] [--steps K] \
 | toaig CFG CHECK FILE [--core NAME] [--basedir DIR] | fromaig AAG CNF\n";
 
 /// Does what the words ask for, delivers what it found, and answers how it ended.
@@ -45,8 +47,9 @@ const USAGE: &[u8] =
 /// judges the checks of a design with N registers that it makes, and puts how many came to what. `cover CFG OUTDIR`
 /// says of each target of the configuration's checks whether a run reaches it, behind the trace of one, or behind
 /// clauses and steps. `zb CFG OUTDIR` judges the checks of the instructions of Zba and Zbs as `run` does its own.
-/// `toaig CFG CHECK FILE` writes the graph of a check, whose output is 1 exactly in the runs that violate it, and
-/// `fromaig AAG CNF` the clauses of a graph. A refusal has one line that names its cause.
+/// `induct CFG OUTDIR` says of each check that looks at one cycle whether it holds in runs of every length, by
+/// induction with K steps. `toaig CFG CHECK FILE` writes the graph of a check, whose output is 1 exactly in the runs
+/// that violate it, and `fromaig AAG CNF` the clauses of a graph. A refusal has one line that names its cause.
 pub fn run<R: Threads + Sync, F: Files, O: Out>(
     rt: &R,
     alloc: Global,
@@ -189,6 +192,10 @@ fn done<R: Threads + Sync, F: Files, O: Out, G: Gate>(
         Line::Zb(options) => {
             let work = Work::of(options, Asking::Zb, Wording::Zb);
             check(rt, alloc, &work, gate, files, out)
+        }
+        Line::Induct { options, steps } => {
+            let order = LengthRequest::of(options, *steps);
+            lengths(rt, alloc, &order, gate, files, out)
         }
         Line::Toaig {
             cfg,

@@ -8,3 +8,5 @@ pub mod RunsJudging
 pub mod SourcesJudging
 pub mod NamesShown
 pub mod Written
+pub mod HalvesTold
+pub mod SourcesInducting

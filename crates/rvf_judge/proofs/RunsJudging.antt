@@ -23,7 +23,7 @@ each_of P (clocked ss b ∷ ps) h = each_of P ps h
 each_of P (starts ss l v ∷ ps) h = each_of P ps h
 
 -- what holds of each declared name of the one does of the other's
-moved : (P : Decl → Type 0) (ps qs : List Part) → decls_of ps ≡ decls_of qs → EachDeclared P ps → EachDeclared P qs
+pub moved : (P : Decl → Type 0) (ps qs : List Part) → decls_of ps ≡ decls_of qs → EachDeclared P ps → EachDeclared P qs
 moved P ps qs e h = each_declared P qs (subst (λ ds. Each P ds) e (each_of P ps h))
 
 same_free : (ps qs : List Part) → AreSameMaps ps qs → (c : Class) (text : List ℕ) (k cycle : ℕ)

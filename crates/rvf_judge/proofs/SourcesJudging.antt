@@ -44,7 +44,7 @@ all_shown (starts ss l e ∷ ps) = all_shown ps
 same_shown : (ps qs : List Part) → decls_of ps ≡ decls_of qs → shown ps ≡ shown qs
 same_shown ps qs e = all_shown ps ∙ ap shown_all e ∙ sym (all_shown qs)
 
-same_trace : (ps qs : List Part) (run : List Values) → decls_of ps ≡ decls_of qs
+pub same_trace : (ps qs : List Part) (run : List Values) → decls_of ps ≡ decls_of qs
     → trace_of_run qs run ≡ trace_of_run ps run
 same_trace ps qs run e =
     ap (λ (ns : List TraceName). record { names = ns; cycles = map (λ v. map (λ n. v n.text) ns) run })

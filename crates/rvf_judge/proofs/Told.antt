@@ -48,7 +48,7 @@ few_channels channels q h few =
     omega (arith, less, room)
 
 -- what is read of the texts is what they say
-both_said : (formula : Cnf) (steps : List Step) (texts : CertificateTexts) → (formula.vars < 10 ^ 18 → AreShort steps)
+pub both_said : (formula : Cnf) (steps : List Step) (texts : CertificateTexts) → (formula.vars < 10 ^ 18 → AreShort steps)
     → AreReadBack formula steps texts → Fits formula → SayBoth formula steps texts
 both_said formula steps texts short back fits = record {
   formula_said = (formula_law texts.clauses formula).0 (back.clauses fits);

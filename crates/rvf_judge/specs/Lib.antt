@@ -4,3 +4,5 @@ pub mod Lines
 pub mod NoteLinesParts
 pub mod Words
 pub mod Sources
+pub mod Inducted
+pub mod InductParts

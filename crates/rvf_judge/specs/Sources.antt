@@ -12,6 +12,9 @@ use Rattle.rvfi_port.specs.declared.port.Wants.{Wants}
 use Rattle.ck_ask.specs.declared.question.Question.{Question}
 use Rattle.cnf_form.specs.Cnf.{Cnf}
 use Rattle.lrat_check.specs.declared.step.Step.{Step}
+use Rattle.ck_cfg.specs.declared.check.Check.{Check}
+use Rattle.rvf_judge.specs.Inducted.{IsInducted}
+use Rattle.rvf_judge.specs.declared.induction.Induction.{Induction}
 use Rattle.rvf_judge.specs.Judged.{IsJudged}
 use Rattle.rvf_judge.specs.declared.judged.Judged.{Judged}
 
@@ -29,3 +32,18 @@ JudgementsAreTheSources more =
     (judged : Judged) → IsDrawn ps flat → AreSameMaps ps (flat_parts flat)
     → IsJudged more (flat_parts flat) channels wants q opts budget judged
     → IsJudged more ps channels wants q opts budget judged
+
+-- ---- of checks by induction
+
+abbrev pub InductionsDependOnMaps : (ℕ → Cnf → List Step → Type 0) → Type 0
+InductionsDependOnMaps more =
+    (ps qs : List Part) (channels : ℕ) (wants : Wants) (check : Check) (opts : Opts) (k budget : ℕ) (made : Induction)
+    → AreSameMaps ps qs → decls_of ps ≡ decls_of qs → IsInducted more qs channels wants check opts k budget made
+    → IsInducted more ps channels wants check opts k budget made
+
+abbrev pub InductionsAreTheSources : (ℕ → Cnf → List Step → Type 0) → Type 0
+InductionsAreTheSources more =
+    (ps : List Part) (flat : Flat) (channels : ℕ) (wants : Wants) (check : Check) (opts : Opts) (k budget : ℕ)
+    (made : Induction) → IsDrawn ps flat → AreSameMaps ps (flat_parts flat)
+    → IsInducted more (flat_parts flat) channels wants check opts k budget made
+    → IsInducted more ps channels wants check opts k budget made

@@ -5,11 +5,12 @@ ghost use Rattle.cnf_text.specs.Dimacs.{HaveNoEnd, dimacs_text};
 ghost use Rattle.lrat_check.specs.Texts.{lrat_text};
 ghost use Rattle.vl_lower_spec.specs.Graphic.{AreGraphic};
 ghost use Rattle.ck_ask.specs.Questions.{question_channel, question_cycle};
-ghost use Rattle.ck_design.specs.Notes.{notes_of};
+ghost use Rattle.ck_design.specs.Notes.{choice_notes, notes_of};
 ghost use Rattle.rvf_judge.specs.Lines as lines;
 ghost use Rattle.rvf_judge.specs.JudgeParts.{AreReadBack};
 ghost use Rattle.rvf_judge.specs.Judged.{AreTexts};
 
+use crate::choice::choice_notes;
 use crate::judged::CertificateTexts;
 use crate::line::note_text;
 use crate::notes::notes_of;
@@ -78,6 +79,29 @@ pub(crate) fn texts_of(
         fields,
         question.channel(),
         question.cycle(),
+    )?;
+    let lines = note_texts(alloc, notes.as_slice())?;
+    written(alloc, certificate, lines.as_slice())
+}
+
+/// The texts of a certificate of one half of an induction, with a note for each placed bit of a choice. Within the
+/// limits of the formats they are read back.
+pub(crate) fn half_texts(
+    alloc: Global,
+    names: &Names,
+    certificate: &Certificate,
+) -> Result<CertificateTexts, Memory>
+    requires graphic { AreGraphic names.now }
+    ensures texts { IfOk result (AreTexts (choice_notes names.now certificate.now.bits) certificate.now.formula
+        certificate.now.steps) }
+    ensures read_back { IfOk result (AreReadBack certificate.now.formula certificate.now.steps) }
+{
+    let bits = &certificate.bits;
+    let notes = choice_notes(
+        alloc,
+        names,
+        bits.sources.as_slice(),
+        bits.places.as_slice(),
     )?;
     let lines = note_texts(alloc, notes.as_slice())?;
     written(alloc, certificate, lines.as_slice())

@@ -6,7 +6,8 @@ use Rattle.clap.specs.Words.{Row, Text, first_of, subcommand_of}
 use Rattle.clap.specs.Walk.{is_empty}
 use Rattle.clap.specs.Faults.{fault_of}
 use Rattle.rvf_words.specs.declared.line.Line.{Line}
-use Rattle.rvf_words.specs.declared.line.Line.TheVariants.{Run, List as Listed, Lrat, Bench, Cover, Zb, Toaig, Fromaig}
+use Rattle.rvf_words.specs.declared.line.Line.TheVariants.{Run, List as Listed, Lrat, Bench, Cover, Zb, Induct, Toaig}
+use Rattle.rvf_words.specs.declared.line.Line.TheVariants.{Fromaig}
 use Rattle.rvf_words.specs.declared.line.Options.{Options}
 use Rattle.rvf_words.specs.Table.{program}
 
@@ -25,6 +26,9 @@ jobs_of digits = count_of 1 64 digits
 
 abbrev pub cubes_of : Text → Option ℕ
 cubes_of digits = count_of 0 6 digits
+
+abbrev pub steps_of : Text → Option ℕ
+steps_of digits = count_of 1 100 digits
 
 abbrev pub size_of : Text → Option ℕ
 size_of digits = count_of 2 32 digits
@@ -67,6 +71,11 @@ cover_line rows = option_map (λ options. Cover options) (options_in rows)
 abbrev pub zb_line : List Row → Option Line
 zb_line rows = option_map (λ options. Zb options) (options_in rows)
 
+abbrev pub induct_line : List Row → Option Line
+induct_line rows =
+    option_and_then (λ options. option_map (λ steps. Induct options steps)
+    (option_and_then steps_of (first_of (codes "steps") rows))) (options_in rows)
+
 abbrev pub toaig_line : List Row → Option Line
 toaig_line rows =
     option_and_then (λ cfg. option_and_then (λ check. option_and_then (λ file. option_and_then (λ core.
@@ -88,6 +97,7 @@ asked name rows =
     else if bytes_eq name (codes "bench") then bench_line rows
     else if bytes_eq name (codes "cover") then cover_line rows
     else if bytes_eq name (codes "zb") then zb_line rows
+    else if bytes_eq name (codes "induct") then induct_line rows
     else if bytes_eq name (codes "toaig") then toaig_line rows
     else if bytes_eq name (codes "fromaig") then fromaig_line rows else None
 

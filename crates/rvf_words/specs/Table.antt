@@ -43,6 +43,10 @@ cover = with_options (new_app (codes "cover"))
 abbrev pub zb : App
 zb = with_options (new_app (codes "zb"))
 
+-- `induct` with these, and `[--steps K]` behind them
+abbrev pub induct : App
+induct = with_rule (with_options (new_app (codes "induct"))) (choice (codes "steps") (codes "1"))
+
 -- `toaig CFG CHECK FILE [--core NAME] [--basedir DIR]`
 abbrev pub toaig : App
 toaig =
@@ -65,5 +69,5 @@ alone = record { top = top; subs = [] }
 abbrev pub program : App
 program =
     with_subcommand (with_subcommand (with_subcommand (with_subcommand (with_subcommand (with_subcommand
-    (with_subcommand (with_subcommand alone run.top) list.top) lrat.top) bench.top) cover.top) zb.top) toaig.top)
-    fromaig.top
+    (with_subcommand (with_subcommand (with_subcommand alone run.top) list.top) lrat.top) bench.top) cover.top) zb.top)
+    induct.top) toaig.top) fromaig.top

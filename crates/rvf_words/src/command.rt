@@ -91,6 +91,14 @@ fn zb<'a>(alloc: Global) -> Result<Command<'a>, Memory>
     with_options(alloc, Command::new(alloc, "zb"))
 }
 
+fn induct<'a>(alloc: Global) -> Result<Command<'a>, Memory>
+    ensures shape { IfOk result (λ made. app_of made ≡ table.induct) }
+    ensures plain { IfOk result (λ made. (fields_of made).has_globals ≡ false) }
+{
+    let options = with_options(alloc, Command::new(alloc, "induct"))?;
+    with(options, choice(alloc, "steps", "1"))
+}
+
 fn toaig<'a>(alloc: Global) -> Result<Command<'a>, Memory>
     ensures shape { IfOk result (λ made. app_of made ≡ table.toaig) }
     ensures plain { IfOk result (λ made. (fields_of made).has_globals ≡ false) }
@@ -136,6 +144,7 @@ pub(crate) fn program<'a>(alloc: Global) -> Result<Command<'a>, Memory>
     let benches = below(proofs, bench(alloc)?)?;
     let targets = below(benches, cover(alloc)?)?;
     let bits = below(targets, zb(alloc)?)?;
-    let graphs = below(bits, toaig(alloc)?)?;
+    let lengths = below(bits, induct(alloc)?)?;
+    let graphs = below(lengths, toaig(alloc)?)?;
     below(graphs, fromaig(alloc)?)
 }

@@ -41,6 +41,12 @@ pub enum Line {
     Cover(Options),
     /// `zb CFG OUTDIR`: the checks of the instructions of Zba and Zbs.
     Zb(Options),
+    /// `induct CFG OUTDIR`: the checks that look at one cycle, in runs of every length.
+    Induct {
+        options: Options,
+        /// How many cycles the base has, and how many the step has before the last one, from 1 to 100.
+        steps: u32,
+    },
     /// `toaig CFG CHECK FILE`: the graph of a check.
     Toaig {
         cfg: Text,

@@ -21,6 +21,9 @@ const MOST_JOBS: u64 = 64;
 /// The most variables that a check's clauses may be split by.
 const MOST_CUBES: u64 = 6;
 
+/// The most steps of an induction.
+const MOST_STEPS: u64 = 100;
+
 /// The fewest and the most words of the design of `bench`.
 const FEWEST_WORDS: u64 = 2;
 
@@ -90,6 +93,16 @@ fn cubes_of(digits: &str) -> Option<u32>
 {
     match count_of(digits, 0, MOST_CUBES) {
         Some(cubes) => Some(cubes as u32),
+        None => None,
+    }
+}
+
+/// The number in the range of steps.
+fn steps_of(digits: &str) -> Option<u32>
+    ensures { result ≡ line.steps_of digits.now }
+{
+    match count_of(digits, 1, MOST_STEPS) {
+        Some(steps) => Some(steps as u32),
         None => None,
     }
 }
@@ -232,6 +245,21 @@ fn toaig_line(alloc: Global, matches: &ArgMatches<'_>) -> Result<Option<Line>, M
     }))
 }
 
+fn induct_line(alloc: Global, matches: &ArgMatches<'_>) -> Result<Option<Line>, Memory>
+    ensures { IfOk result (λ made. made ≡ line.induct_line (rows_of (found_of matches.now))) }
+{
+    let Some(options) = options_of(alloc, matches)? else {
+        return Ok(None)
+    };
+    let Some(digits) = value_of(matches, "steps") else {
+        return Ok(None)
+    };
+    let Some(steps) = steps_of(digits) else {
+        return Ok(None)
+    };
+    Ok(Some(Line::Induct { options, steps }))
+}
+
 fn fromaig_line(alloc: Global, matches: &ArgMatches<'_>) -> Result<Option<Line>, Memory>
     ensures { IfOk result (λ made. made ≡ line.fromaig_line (rows_of (found_of matches.now))) }
 {
@@ -255,6 +283,7 @@ fn asked(alloc: Global, matches: &ArgMatches<'_>) -> Result<Option<Line>, Memory
         Some((name, found)) if name == "bench" => Ok(bench_line(found)),
         Some((name, found)) if name == "cover" => cover_line(alloc, found),
         Some((name, found)) if name == "zb" => zb_line(alloc, found),
+        Some((name, found)) if name == "induct" => induct_line(alloc, found),
         Some((name, found)) if name == "toaig" => toaig_line(alloc, found),
         Some((name, found)) if name == "fromaig" => fromaig_line(alloc, found),
         _ => Ok(None),

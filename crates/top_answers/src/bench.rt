@@ -24,7 +24,16 @@ const NAMED: [&str; 5] = [
 ];
 
 /// How the names of a check's files end.
-const ENDINGS: [&str; 3] = ["cnf", "lrat", "vcd"];
+const ENDINGS: [&str; 8] = [
+    "base.cnf",
+    "base.lrat",
+    "cnf",
+    "lrat",
+    "step.cnf",
+    "step.lrat",
+    "step.vcd",
+    "vcd",
+];
 
 /// A text under its name.
 #[derive(Drop)]

@@ -8,7 +8,7 @@ use Rattle.rvf_case.specs.Steps.{Loads, LoadsInTurn, StopsAt}
 use Rattle.rvf_case.specs.Texts.{asked_for, leaders, questions_of}
 use Rattle.rvf_case.specs.declared.loading.Stop.{Stop}
 use Rattle.rvf_case.proofs.Counting.{few_questions}
-use Rattle.rvf_case.proofs.Readiness.{questions_lawful, ready}
+use Rattle.rvf_case.proofs.Readiness.{in_range, questions_lawful, ready}
 use Rattle.rvf_case.proofs.Turns.{at_question}
 use Rattle.rvf_case.proofs.loading.case_of.Goals as goal
 
@@ -30,7 +30,7 @@ load_all-requires-clause-lawful c =
     let all : c.as_slice-2.result.now ≡ questions_of (asking_seen c.args.asking) c.args.config =
     c.as_slice-2.ensures ∙ c.in_ok-questions.ensures in
     subst (AllByRecursion (IsQuestion c.args.config.nret)) (sym all)
-    (questions_lawful (asking_seen c.args.asking) c.args.config c.requires.lawful)
+    (questions_lawful (asking_seen c.args.asking) c.args.config (in_range c.args.asking) c.requires.lawful)
 
 pub load_all-requires-clause-few : goal.load_all-requires-clause-few
 load_all-requires-clause-few c =
@@ -56,7 +56,7 @@ returns-in-Ok-clause-ready c =
     c.in_ok-questions.ensures
     (subst (λ (qs : List Question). LoadsInTurn (asked_for c.args.config c.args.files.now qs)
     (leaders c.args.config qs) (Ok c.in-Ok.texts)) c.as_slice-2.ensures c.in-Ok.ensures)
-    c.requires.lawful c.requires.channels.1
+    (in_range c.args.asking) c.requires.lawful c.requires.channels.1
 
 pub refusal_of-requires : goal.refusal_of-requires
 refusal_of-requires c =

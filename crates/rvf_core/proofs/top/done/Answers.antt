@@ -1,11 +1,11 @@
 use Rattle.std.proofs.Common.{Some, arith, refl}
 use Rattle.rvf_core.specs.Tasks.{run_task}
-use Rattle.rvf_core.specs.Works.{task_seen}
+use Rattle.rvf_core.specs.Works.{length_seen, task_seen}
 use Rattle.rvf_core.specs.Run.{Run}
 use Rattle.rvf_core.proofs.Asking.{cover_asks, run_asks, run_between, task_statuses, zb_asks}
 use Rattle.rvf_core.proofs.FromChecks.{le_itself}
 use Rattle.rvf_core.proofs.FromWords.{bench_ends, bench_statuses, certificate_ends, list_ends, list_statuses, lrat_ends}
-use Rattle.rvf_core.proofs.FromWords.{toaig_ends, toaig_statuses}
+use Rattle.rvf_core.proofs.FromWords.{induct_ends, induct_statuses, toaig_ends, toaig_statuses}
 use Rattle.rvf_core.proofs.FromWords.{fromaig_ends, fromaig_statuses, graph_ends, graph_leaves, lrat_statuses, names_end}
 use Rattle.rvf_report.specs.Outcome.{outside}
 use Rattle.rvf_core.proofs.Quiet.{put_counts}
@@ -207,3 +207,13 @@ returns-in-Toaig-clause-statuses g c = λ asked.
     c.bytes-in-Toaig-3.result.now c.bytes-in-Toaig-4.result.now c.bytes-in-Toaig-5.result.now c.in-Toaig.is
     c.bytes-in-Toaig.ensures c.bytes-in-Toaig-2.ensures c.bytes-in-Toaig-3.ensures c.bytes-in-Toaig-4.ensures
     c.bytes-in-Toaig-5.ensures (c.export.ensures.statuses asked)
+
+pub returns-in-Induct-clause-ends : goal.returns-in-Induct-clause-ends
+returns-in-Induct-clause-ends g c = λ asked.
+    induct_ends c.args.line.now _ c.lengths.result (length_seen c.of-order.result) c.in-Induct.options c.in-Induct.steps
+    c.in-Induct.is c.of-order.ensures.line (c.lengths.ensures.ends asked)
+
+pub returns-in-Induct-clause-statuses : goal.returns-in-Induct-clause-statuses
+returns-in-Induct-clause-statuses g c = λ asked.
+    induct_statuses c.args.line.now _ c.lengths.result (length_seen c.of-order.result) c.in-Induct.options
+    c.in-Induct.steps c.in-Induct.is c.of-order.ensures.line (c.lengths.ensures.statuses asked)

@@ -25,8 +25,11 @@ with_cover = with_subcommand with_bench table.cover.top
 abbrev with_zb : App
 with_zb = with_subcommand with_cover table.zb.top
 
+abbrev with_induct : App
+with_induct = with_subcommand with_zb table.induct.top
+
 abbrev with_toaig : App
-with_toaig = with_subcommand with_zb table.toaig.top
+with_toaig = with_subcommand with_induct table.toaig.top
 
 pub returns : goal.returns
 returns c =
@@ -42,7 +45,9 @@ returns c =
     c.in_ok-targets.ensures ∙ ap₂ with_subcommand bench_is (ap top_of c.in_ok-cover.ensures.shape) in
     let zb_is : app_of c.in_ok-bits.bits ≡ with_zb =
     c.in_ok-bits.ensures ∙ ap₂ with_subcommand cover_is (ap top_of c.in_ok-zb.ensures.shape) in
+    let induct_is : app_of c.in_ok-lengths.lengths ≡ with_induct =
+    c.in_ok-lengths.ensures ∙ ap₂ with_subcommand zb_is (ap top_of c.in_ok-induct.ensures.shape) in
     let toaig_is : app_of c.in_ok-graphs.graphs ≡ with_toaig =
-    c.in_ok-graphs.ensures ∙ ap₂ with_subcommand zb_is (ap top_of c.in_ok-toaig.ensures.shape) in
-    IfOk-weaker c.below-8.result _ _
-    (λ m h. h ∙ ap₂ with_subcommand toaig_is (ap top_of c.in_ok-fromaig.ensures.shape)) c.below-8.ensures
+    c.in_ok-graphs.ensures ∙ ap₂ with_subcommand induct_is (ap top_of c.in_ok-toaig.ensures.shape) in
+    IfOk-weaker c.below-9.result _ _
+    (λ m h. h ∙ ap₂ with_subcommand toaig_is (ap top_of c.in_ok-fromaig.ensures.shape)) c.below-9.ensures

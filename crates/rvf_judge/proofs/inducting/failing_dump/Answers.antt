@@ -1,0 +1,15 @@
+use Rattle.std.proofs.Common.{◌∙◌}
+use Rattle.ck_induct.proofs.Traced.{dumped}
+use Rattle.rvf_judge.proofs.inducting.failing_dump.Goals as goal
+
+pub vcd-requires : goal.vcd-requires
+vcd-requires c =
+    (dumped c.args.net.now c.args.names.now c.args.bad c.args.k c.args.witness.now c.in_ok-trace.trace
+    c.nodes.ensures.whole c.requires.names).0 c.in_ok-trace.ensures
+
+pub returns : goal.returns
+returns c = record {
+  trace = c.in_ok-trace.trace;
+  failing = c.in_ok-trace.ensures;
+  dump_is = c.from_vec.ensures ∙ c.in_ok-bytes.ensures.text;
+}
