@@ -31,14 +31,14 @@ pub(crate) struct LearntClauses {
 }
 
 impl LearntClauses {
-    /// For a formula of so many clauses.
+    /// For a formula of so many clauses. As many learnt ones are held at first: where a third of them was, formulas of a
+    /// big memory lost what they needed, and took twenty times as long.
     pub(crate) fn new(alloc: Global, first: usize) -> LearntClauses {
-        let third = first / 3;
         LearntClauses {
             alloc,
             rows: Vec::new(alloc),
             base: 0,
-            most: if third < LEAST { LEAST } else { third },
+            most: if first < LEAST { LEAST } else { first },
         }
     }
 
