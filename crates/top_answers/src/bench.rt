@@ -49,6 +49,7 @@ enum Manner {
     InBrief,
     ToMeet,
     WithDumps,
+    WithNames,
 }
 
 /// A run that is asked for.
@@ -107,6 +108,7 @@ impl Bench {
             Line::RunInBrief(words) => return Ok(Some(self.asked(words, Manner::InBrief)?)),
             Line::RunToMeet(words) => return Ok(Some(self.asked(words, Manner::ToMeet)?)),
             Line::RunWithDumps(words) => return Ok(Some(self.asked(words, Manner::WithDumps)?)),
+            Line::RunWithNames(words) => return Ok(Some(self.asked(words, Manner::WithNames)?)),
             Line::Repeat(count, text) => self.repeat(count, text)?,
             Line::Numbered(first, last, text) => self.repeat_numbered(first, last, text)?,
             Line::End => self.end(),
@@ -218,8 +220,7 @@ impl Bench {
             matches!(asked.manner, Manner::InBrief),
         )?;
         told.push_str(format!(in self.alloc; "= {code}\n{met}")?.as_str())?;
-        let with_dumps = matches!(asked.manner, Manner::WithDumps);
-        self.put_files(&mut told, &files, with_dumps)?;
+        self.put_files(&mut told, &files, asked.manner)?;
         self.held = Some(files);
         Ok(told)
     }
@@ -235,31 +236,42 @@ impl Bench {
         Ok(told)
     }
 
-    /// A line for each file of a check or a target that is there, and the texts of dumps where they are asked.
-    fn put_files(&self, told: &mut String, files: &MemFiles, with_dumps: bool) -> Result<()> {
+    /// A line for each file of a check or a target that is there, and the texts of dumps and the names of notes where
+    /// they are asked.
+    fn put_files(&self, told: &mut String, files: &MemFiles, manner: Manner) -> Result<()> {
         for kind in KINDS {
             for channel in CHANNELS {
                 let name = format!(in self.alloc; "{kind}_ch{channel}")?;
-                self.put_files_of(told, files, name.as_str(), with_dumps)?;
+                self.put_files_of(told, files, name.as_str(), manner)?;
             }
         }
         for name in NAMED {
-            self.put_files_of(told, files, name, with_dumps)?;
+            self.put_files_of(told, files, name, manner)?;
         }
         Ok(())
     }
 
-    /// A line for each file of the check or target of a name, and the text of its dump where that is asked.
+    /// A line for each file of the check or target of a name, and the text of its dump or the names of its notes where
+    /// they are asked.
     fn put_files_of(
         &self,
         told: &mut String,
         files: &MemFiles,
         name: &str,
-        with_dumps: bool,
+        manner: Manner,
     ) -> Result<()> {
         for ending in ENDINGS {
             let path = format!(in self.alloc; "out/{name}.{ending}")?;
-            put_file(told, files, path.as_str(), with_dumps && ending == "vcd")?;
+            let is_dump = ending == "vcd";
+            put_file(
+                told,
+                files,
+                path.as_str(),
+                is_dump && matches!(manner, Manner::WithDumps),
+            )?;
+            if ending == "cnf" && matches!(manner, Manner::WithNames) {
+                put_names(told, files, path.as_str())?;
+            }
         }
         Ok(())
     }
@@ -281,6 +293,27 @@ fn put_file(
         }
     }
     Ok(())
+}
+
+/// A line with the names of which the notes of a clause file have bit 0, in order.
+fn put_names(told: &mut String, files: &MemFiles, name: &str) -> Result<(), AllocError> {
+    let Some(bytes) = files.get(name) else {
+        return Ok(());
+    };
+    let text = str::from_utf8(bytes).unwrap_or("");
+    for line in text.split('\n') {
+        if let Some(note) = line.strip_prefix("c ") {
+            let mut words = note.split(' ');
+            let _literal = words.next();
+            let _cycle = words.next();
+            let bit = words.next().unwrap_or("");
+            if bit == "0" {
+                told.push(' ')?;
+                told.push_str(words.next().unwrap_or(""))?;
+            }
+        }
+    }
+    told.push('\n')
 }
 
 fn append_to_last(all: &mut Vec<Named>, text: &str) -> Result<(), AllocError> {

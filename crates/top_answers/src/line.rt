@@ -23,6 +23,8 @@ pub enum Line<'a> {
     RunToMeet(&'a str),
     /// `> WORDS`: a run of which the dumps are told too.
     RunWithDumps(&'a str),
+    /// `~ WORDS`: a run of which the names are told too that the notes of the clause files have.
+    RunWithNames(&'a str),
     /// `* N TEXT`: the text so many times, without an end of its line.
     Repeat(u64, &'a str),
     /// `+ N M TEXT`: the text once for each number from N to M, which stands at each `#` of it; at each `|` a line ends.
@@ -69,6 +71,9 @@ pub(crate) fn line_of(text: &str) -> Line<'_> {
     }
     if let Some(words) = text.strip_prefix("> ") {
         return Line::RunWithDumps(words);
+    }
+    if let Some(words) = text.strip_prefix("~ ") {
+        return Line::RunWithNames(words);
     }
     if let Some(repeated) = text.strip_prefix("* ") {
         let (count, text) = repeated.split_once(' ').unwrap_or((repeated, ""));
