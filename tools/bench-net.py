@@ -4,9 +4,12 @@ made, proved and built in a temporary folder (some minutes). Not part of the gat
 
 Usage: tools/bench-net.py   Prints the nodes, and the seconds and the memory of each whole run: of building alone, with an
 evaluation, and with a copy that is evaluated. The value is compared with one that is computed here.
+       tools/bench-net.py --shared   Of building alone, with the cone of the last node, and with equal nodes made one, each
+evaluated, by a program that isn't proved.
 """
 import os
 import subprocess
+import sys
 import time
 
 import made
@@ -78,6 +81,21 @@ fn input(rt: &impl Abort, net: &mut Net) -> Result<NodeId, Memory> {
 """
 
 
+# behind the building: the cone of the last node, or the net with equal nodes once, evaluated
+SHARED = """    if bytes.as_slice().ends_with(b"coned") {
+        let (part, places) = cone(alloc, &net, &[b])?;
+        let value = evaluated(&rt, alloc, &part, place(places.as_slice(), b))?;
+        println!(rt; "{value}")?;
+    }
+    if bytes.as_slice().ends_with(b"shared") {
+        let made = compact(alloc, &net, &[b])?;
+        let value = evaluated(&rt, alloc, &made.net, made.roots.as_slice()[0])?;
+        println!(rt; "{value}")?;
+    }
+    if bytes.as_slice().ends_with(b"copied") {
+"""
+
+
 def last(nodes):
     mask = 2**128 - 1
     a, b = 3, 5
@@ -86,19 +104,30 @@ def last(nodes):
     return b
 
 
+def measure(program, works):
+    for nodes in [2500000, 5000000, 10000000]:
+        for work in works:
+            start = time.time()
+            process = subprocess.Popen([program], stdin=subprocess.PIPE, stdout=subprocess.PIPE)
+            process.stdin.write(f"{nodes} {work}".encode())
+            process.stdin.close()
+            value = process.stdout.read().decode().strip()
+            usage = os.wait4(process.pid, 0)[2]
+            seconds = time.time() - start
+            same = value == ("" if work == "built" else str(last(nodes)))
+            print(f"{nodes} nodes {work}: {'right' if same else 'WRONG'}, {seconds:.2f} s, {usage.ru_maxrss // 1024} MB")
+
+
 def main():
-    with made.program("many_nodes", PROGRAM.replace("COUNT\n", made.COUNT), ["wn_net", "fv_text"]) as program:
-        for nodes in [2500000, 5000000, 10000000]:
-            for work in ["built", "evaluated", "copied"]:
-                start = time.time()
-                process = subprocess.Popen([program], stdin=subprocess.PIPE, stdout=subprocess.PIPE)
-                process.stdin.write(f"{nodes} {work}".encode())
-                process.stdin.close()
-                value = process.stdout.read().decode().strip()
-                usage = os.wait4(process.pid, 0)[2]
-                seconds = time.time() - start
-                same = value == ("" if work == "built" else str(last(nodes)))
-                print(f"{nodes} nodes {work}: {'right' if same else 'WRONG'}, {seconds:.2f} s, {usage.ru_maxrss // 1024} MB")
+    text = PROGRAM.replace("COUNT\n", made.COUNT)
+    if "--shared" in sys.argv:
+        first = '    if bytes.as_slice().ends_with(b"copied") {\n'
+        text = text.replace(first, SHARED).replace("use wn_net::", "use wn_opt::{compact, cone, place};\nuse wn_net::")
+        with made.unproved("many_nodes", text, ["wn_opt", "wn_net", "fv_text"]) as program:
+            measure(program, ["built", "evaluated", "coned", "shared"])
+        return
+    with made.program("many_nodes", text, ["wn_net", "fv_text"]) as program:
+        measure(program, ["built", "evaluated", "copied"])
 
 
 main()
