@@ -26,6 +26,7 @@ use Rattle.vl_mean.specs.Runs.{Each}
 use Rattle.wn_net.specs.Value.{Given}
 use Rattle.wn_net.specs.Net.{Netlist, AreNodes, value_at}
 use Rattle.vl_lower_assign.specs.Frames.{AreCellsOf, Cells, IsFrame, Stand, StandsFor, taken_back}
+use Rattle.vl_lower_assign.specs.Tracks.{AreTracks}
 use Rattle.vl_lower_assign.specs.Stored.{stored}
 use Rattle.vl_lower_assign.proofs.Behind.{cells_on, stand_on}
 use Rattle.vl_lower_stmt.specs.Executes.{Executes}
@@ -66,13 +67,16 @@ module _ (ds : List Decl) (old new : Netlist) (f h : Cells) (empty : f.assumed �
   -- a clocked block, whose cells are taken back
   pub block_ticks : (z : Stmt) (b : Cells) → IsFrame old ds f → f.log ≡ [] → Executes ds old new f h None z
       → b.now ≡ taken_back h.log h.now → b.next ≡ h.next → b.assumed ≡ h.assumed
-      → Ticks ds old new f b b.assumed (k.Clocked z)
-  block_ticks z b own log s now next assumed = record {
+      → b.tracks ≡ h.tracks → Ticks ds old new f b b.assumed (k.Clocked z)
+  block_ticks z b own log s now next assumed tracks = record {
     adds = s.adds;
     frame = record {
       now = subst (AreCellsOf new ds) (sym back) (cells_on old new ds f.now s.adds own.now);
       next = subst (AreCellsOf new ds) (sym next) s.frame.next;
       assumed = subst (AreNodes new) (sym assumed) s.frame.assumed;
+      tracks =
+          subst (AreTracks new b.next) (sym tracks)
+          (subst (λ (cells : List ℕ). AreTracks new cells h.tracks) (sym next) s.frame.tracks);
     };
     there = subst (AreNodes new) (sym assumed) s.frame.assumed;
     comes = λ g v w is first later.
@@ -112,7 +116,7 @@ module _ (ds : List Decl) (net : Netlist) (f : Cells) (own : IsFrame net ds f) (
 -- ---- what was assumed is handed over
 
 module _ (ds : List Decl) (old new : Netlist) (f h k : Cells) (nodes : List ℕ) (kept : h.assumed ≡ nodes)
-    (now : k.now ≡ h.now) (next : k.next ≡ h.next) (empty : k.assumed ≡ []) where
+    (now : k.now ≡ h.now) (next : k.next ≡ h.next) (empty : k.assumed ≡ []) (tracks : k.tracks ≡ h.tracks) where
   pub handed : (first : Values → Values) (after : Values → Values → Values) (seen : Values → List ℕ)
       → Turns old new ds f h h.assumed first after seen → Turns old new ds f k nodes first after seen
   handed first after seen t = record {
@@ -121,6 +125,9 @@ module _ (ds : List Decl) (old new : Netlist) (f h k : Cells) (nodes : List ℕ)
       now = subst (AreCellsOf new ds) (sym now) t.frame.now;
       next = subst (AreCellsOf new ds) (sym next) t.frame.next;
       assumed = subst (AreNodes new) (sym empty) tt;
+      tracks =
+          subst (AreTracks new k.next) (sym tracks)
+          (subst (λ (cells : List ℕ). AreTracks new cells h.tracks) (sym next) t.frame.tracks);
     };
     there = subst (AreNodes new) kept t.there;
     comes = λ g v w is first_stands later.

@@ -1,5 +1,5 @@
 -- The phases that lowering goes through make the design's net.
-use Rattle.std.specs.Prelude.{◌≡◌, refl, ℕ, List, [], ◌∷◌, ◌++◌, map, All}
+use Rattle.std.specs.Prelude.{◌≡◌, refl, ℕ, ◌+◌, List, [], ◌∷◌, ◌++◌, map, All}
 use Rattle.std.proofs.Common.{ap, sym, ◌∙◌, subst}
 use Rattle.vl_size.specs.declared.decl.Decl.{Decl}
 use Rattle.vl_size.specs.Size.{Values}
@@ -21,17 +21,17 @@ use Rattle.wn_net.specs.Given.{IsGiven}
 use Rattle.wn_net.specs.Net.{IsNet, Netlist}
 use Rattle.wn_net.specs.Value.{Given}
 use Rattle.wn_net.proofs.Laws.{keeps_on}
+use Rattle.vl_lower_assign.specs.declared.track.Track.{Track}
 use Rattle.vl_lower_assign.specs.Frames.{Stand}
 use Rattle.vl_lower_cell_laws.specs.Cycles.{SettlesAll, TicksAll}
 use Rattle.vl_lower_cell_laws.specs.declared.keep.Keep.{Keep}
 use Rattle.vl_lower_cell_laws.specs.Entries.{all_entries}
 use Rattle.vl_lower_cell_laws.specs.Listing.{HasSources, Keeping}
 use Rattle.vl_lower_state.specs.Nexts.{ShowBits, with_nexts}
-use Rattle.vl_lower_state.specs.Stores.{AreStored, words_at}
-use Rattle.vl_lower_state.proofs.Carried.{put_nodes_kept}
+use Rattle.vl_lower_state.specs.Stores.{AreStored}
+use Rattle.vl_lower_state.proofs.StoresTogether.{is_stored_kept}
 use Rattle.vl_lower_state.proofs.Whole.{registers_next, words_next}
 use Rattle.vl_lower_state.specs.Phases.{BeginCycle, ClosesCycle}
-use Rattle.vl_lower_state.proofs.Fitting.{cells_kept, stand_kept}
 use Rattle.vl_lower_state.proofs.PhasesTogether as together
 use Rattle.vl_lower_state.proofs.Begun as begun
 use Rattle.vl_lower.specs.declared.sources.Sources.{Sources}
@@ -50,25 +50,25 @@ kept_regs f same (n ∷ ns) [] = refl
 kept_regs f same (n ∷ ns) (r ∷ rs) = (λ i. same r n i ∷ kept_regs f same ns rs i)
 
 -- what is stored stays as the net grows
-stored_kept : (old new : Netlist) → Keeps old new → (cells : List ℕ) (ms : List Mem) (fs : List ℕ)
-    → AreStored old cells ms fs → AreStored new cells ms fs
-stored_kept old new keeps cells [] [] h = tt
-stored_kept old new keeps cells [] (f ∷ fs) h = h
-stored_kept old new keeps cells (m ∷ ms) [] h = h
-stored_kept old new keeps cells (m ∷ ms) (f ∷ fs) h = (
-  put_nodes_kept old new keeps m.width 0 m.writes (words_at cells m f) h.0,
-  stored_kept old new keeps cells ms fs h.1,
+stored_kept : (old new : Netlist) → Keeps old new → (cells : List ℕ) (tracks : List Track) (number : ℕ) (ms : List Mem)
+    (fs : List ℕ) → AreStored old cells tracks number ms fs → AreStored new cells tracks number ms fs
+stored_kept old new keeps cells tracks number [] [] h = tt
+stored_kept old new keeps cells tracks number [] (f ∷ fs) h = h
+stored_kept old new keeps cells tracks number (m ∷ ms) [] h = h
+stored_kept old new keeps cells tracks number (m ∷ ms) (f ∷ fs) h = (
+  is_stored_kept old new keeps cells tracks number m f h.0,
+  stored_kept old new keeps cells tracks (number + 1) ms fs h.1,
 )
 
 module _ (ds : List Decl) (drivers : List Driver) (firsts : List Start) (sequence : List ℕ) (keeps : List Keep)
     (x : Sources) (settled ticked closed middle net : Netlist) (list : List NetName)
-    (s_now s_next t_now t_next on_the_way at_the_edge : List ℕ) (shaped : All IsShaped ds)
+    (s_now s_next t_now t_next on_the_way at_the_edge : List ℕ) (first_tracks s_tracks t_tracks : List Track) (shaped : All IsShaped ds)
     (different : AreDifferent ds) (apart : AreApart ds) (lawful : IsLawful ds drivers firsts)
     (none : HasNoRefusal ds drivers) (order : IsSequence ds drivers sequence)
     (kept : AreKeepsOf (parts_of ds drivers firsts) ds keeps) (has : Declares (parts_of ds drivers firsts) ds keeps x)
-    (settles : SettlesAll ds x.net settled (over x.cells x.cells) (over s_now s_next) on_the_way drivers sequence)
-    (ticks : TicksAll ds settled ticked (over s_now s_next) (over t_now t_next) at_the_edge drivers)
-    (whole : IsNet ticked) (closes : Closes ticked closed t_next x.regs x.register_cells x.memory_cells)
+    (settles : SettlesAll ds x.net settled (over x.cells x.cells first_tracks) (over s_now s_next s_tracks) on_the_way drivers sequence)
+    (ticks : TicksAll ds settled ticked (over s_now s_next s_tracks) (over t_now t_next t_tracks) at_the_edge drivers)
+    (whole : IsNet ticked) (closes : Closes ticked closed t_next t_tracks x.regs x.register_cells x.memory_cells)
     (first : middle ≡ record closed { assumes = closed.assumes ++ on_the_way }) (first_keeps : Keeps closed middle)
     (last : net ≡ record middle { assumes = middle.assumes ++ at_the_edge }) (last_keeps : Keeps middle net)
     (is : IsNet net) (listed : list ≡ entries_by x.memory_cells ds s_now 0 0) where
@@ -133,25 +133,25 @@ module _ (ds : List Decl) (drivers : List Driver) (firsts : List Start) (sequenc
         mem_names = begun.mem_names;
       }
 
-  begins : (g : Given) → IsGiven net g → IsGiven x.net g × BeginCycle ds ps x.net names (over x.cells x.cells) g
+  begins : (g : Given) → IsGiven net g → IsGiven x.net g × BeginCycle ds ps x.net names (over x.cells x.cells first_tracks) g
   begins =
-      begun.begin ds ps keep s_now x.net net names (over x.cells x.cells) shaped different apart lawful.kept kept.are
+      begun.begin ds ps keep s_now x.net net names (over x.cells x.cells first_tracks) shaped different apart lawful.kept kept.are
       entries (has.sources list) sources has.cells refl has.numbers
 
   closing : (g : Given) (next : Values) → IsGiven net g → Stand ticked g ds t_next next
-      → ClosesCycle ds net names (over t_now t_next) g next
+      → ClosesCycle ds net names (over t_now t_next t_tracks) g next
   closing g next given stand = record {
     regs =
         registers_next ds ps keep s_now ticked closes.mid net names t_next closes.nexts ticked.regs g next entries sources
         (subst (λ cs. ShowBits ticked closes.mid t_next x.regs cs closes.nexts) has.register_cells closes.shows) regs
         from_mid (ticks.adds.keeps.given g (settles.adds.keeps.given g (begins g given).0)) stand;
     mems =
-        words_next ds ps keep s_now net names t_next g next entries sources
-        (subst (λ fs. AreStored net t_next net.mems fs) has.memory_cells
-        (subst (λ ms. AreStored net t_next ms x.memory_cells) (sym mems)
-        (stored_kept closed net from_closed t_next closed.mems x.memory_cells closes.stored)))
-        (cells_kept ticked net ds t_next from_ticked ticks.frame.next) is given
-        (stand_kept ticked net g ds t_next next from_ticked ticks.frame.next stand);
+        words_next ds ps keep s_now ticked net names t_next t_tracks g next entries sources ticks.frame.tracks
+        ticks.frame.next from_ticked (ap (map (λ (m : Mem). m.width)) mems ∙ closes.mem_widths)
+        (subst (λ fs. AreStored net t_next t_tracks 0 net.mems fs) has.memory_cells
+        (subst (λ ms. AreStored net t_next t_tracks 0 ms x.memory_cells) (sym mems)
+        (stored_kept closed net from_closed t_next t_tracks 0 closed.mems x.memory_cells closes.stored)))
+        is (ticks.adds.keeps.given g (settles.adds.keeps.given g (begins g given).0)) given stand;
   }
 
   assumes : net.assumes ≡ on_the_way ++ at_the_edge
@@ -167,9 +167,9 @@ module _ (ds : List Decl) (drivers : List Driver) (firsts : List Start) (sequenc
         begun = x.net;
         settled = settled;
         ticked = ticked;
-        first_cells = over x.cells x.cells;
-        settled_cells = over s_now s_next;
-        ticked_cells = over t_now t_next;
+        first_cells = over x.cells x.cells first_tracks;
+        settled_cells = over s_now s_next s_tracks;
+        ticked_cells = over t_now t_next t_tracks;
         on_the_way = on_the_way;
         at_the_edge = at_the_edge;
         keep = keep;

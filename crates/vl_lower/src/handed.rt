@@ -29,6 +29,7 @@ pub(crate) fn take_back(alloc: Global, frame: &mut Frame)
     ensures now { frame.new.now.items ≡ taken_back frame.old.log frame.old.now.items }
     ensures next { frame.new.next.items ≡ frame.old.next.items }
     ensures assumed { frame.new.assumed ≡ frame.old.assumed }
+    ensures tracks { frame.new.tracks.items ≡ frame.old.tracks.items }
     ensures log { frame.new.log ≡ [] }
 {
     let mut left = frame.log.len();

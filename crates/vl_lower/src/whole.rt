@@ -84,20 +84,24 @@ fn lower_sources(
         places,
         env: &env,
     };
+    let firsts = memory_cells.as_slice();
     let settled = settle_cells(
         &mut net,
         layout,
         cells.as_slice(),
+        firsts,
         drivers,
         ordered.sequence.as_slice(),
     )?;
     let ticked = tick_cells(&mut net, layout, &settled.frame, drivers)?;
     let next = ticked.frame.next.as_slice();
+    let tracks = ticked.frame.tracks.as_slice();
     let _whole = net.regs();
     close_cells(
         alloc,
         &mut net,
         next,
+        tracks,
         regs.as_slice(),
         register_cells.as_slice(),
         memory_cells.as_slice(),

@@ -1,7 +1,7 @@
 -- Assignments to one slot, and to one slot after others.
 use Rattle.std.specs.Prelude.{◌≡◌, refl, ℕ, ◌+◌, ◌<◌, ◌≤◌, ◌==◌, ◌&&◌, ◌↔◌, nat_le, nat_lt}
 use Rattle.std.specs.Prelude.{Bool, true, false}
-use Rattle.std.specs.Prelude.{◌-◌, List, [], ◌∷◌, ◌++◌, length, slice_index, Option}
+use Rattle.std.specs.Prelude.{◌-◌, List, [], ◌∷◌, ◌++◌, length, slice_index, Option, None, IfSome}
 use Rattle.std.specs.Prelude.{if◌then◌else◌}
 use Rattle.std.proofs.Common.{ap, sym, ◌∙◌, arith, subst, ◌⊎◌, inl, inr}
 use Rattle.std.proofs.lemmas.Bool.Decides.{nat_tests}
@@ -20,7 +20,10 @@ use Rattle.wn_net.proofs.Laws.{adds_on, value_on, given_on}
 use Rattle.vl_lower_assign.specs.declared.slot.Holder.{Holder}
 use Rattle.vl_lower_assign.specs.declared.slot.Holder.TheVariants as holder
 use Rattle.vl_lower_assign.specs.declared.slot.Slot.{Slot}
-use Rattle.vl_lower_assign.specs.Slots.{IsPath, Writes, is_taken, is_among}
+use Rattle.wn_net.specs.declared.parts.MemWrite.{MemWrite}
+use Rattle.vl_lower_assign.specs.Slots.{IsPath, Stores, Writes, is_taken, is_among}
+use Rattle.vl_lower_assign.specs.Tracks.{FollowWrite}
+use Rattle.vl_lower_assign.proofs.Memories.{tracks_on, tracks_written}
 use Rattle.vl_lower_assign.proofs.Tests.{path_on}
 use Rattle.vl_lower_assign.proofs.Written.{same_or}
 use Rattle.vl_lower_assign.specs.Frames.{AreCellsOf, Stand, Cells, IsFrame, taken_back, IsSlotFor, IsSlotOf}
@@ -28,7 +31,7 @@ use Rattle.vl_lower_assign.specs.Frames.{AreSlotsOf, Assigns, with_writes}
 use Rattle.vl_lower_assign.specs.Logs.{noted_of, IsWithin}
 use Rattle.vl_lower_assign.proofs.Behind.{cells_on, nodes_on, met_on, met_back, stand_on}
 use Rattle.vl_lower_assign.proofs.Logging.{back_append, DifferIn, noted_back}
-use Rattle.vl_lower_assign.proofs.Standing.{slot_on, cells_written, stand_written}
+use Rattle.vl_lower_assign.proofs.Standing.{are_cells, slot_in, slot_for_on, slot_on, cells_written, stand_written}
 
 -- ---- the log
 
@@ -120,8 +123,9 @@ module _ (ds : List Decl) (path : Option ℕ) (slot : Slot) (value : ℕ) where
       → Writes old b f.now h.now path slot value → Writes c new f.next h.next path slot value
       → IsWithin (length f.now) slot.holder
       → h.assumed ≡ f.assumed → h.log ≡ f.log ++ noted_of slot.holder f.now
+      → FollowWrite slot.holder None f.tracks h.tracks
       → Assigns old new ds f h path a.Blocking (slot ∷ []) (λ g. value_at old g value)
-  assigned_now old b c new f h own fits way there later first one two within same log =
+  assigned_now old b c new f h own fits way there later first one two within same log follow =
       let adds = adds_on old b new one.adds later in
       let P : List ℕ → Type 0 = λ ids. AreNodes new ids in
       record {
@@ -131,6 +135,11 @@ module _ (ds : List Decl) (path : Option ℕ) (slot : Slot) (value : ℕ) where
           next =
               cells_written c new ds f.next h.next path slot value two (cells_on old c ds f.next first own.next);
           assumed = subst P (sym same) (nodes_on old new f.assumed adds own.assumed);
+          tracks =
+              let cells = cells_on old c ds f.next first own.next in
+              tracks_written c new f.next h.next path slot value None (are_cells c ds f.next cells) two tt
+              (slot_in c ds f.next slot cells (slot_for_on old c ds slot first fits)).held f.tracks h.tracks follow
+              (tracks_on old c f.next f.tracks first (are_cells old ds f.next own.next) own.tracks);
         };
         back =
             ap (λ cs. taken_back cs h.now) log ∙ back_append f.log (noted_of slot.holder f.now) h.now
@@ -161,10 +170,13 @@ module _ (ds : List Decl) (path : Option ℕ) (slot : Slot) (value : ℕ) where
       }
 
   -- for the next cycle alone
-  pub assigned_next : (old new : Netlist) (f h : Cells) → IsFrame old ds f → Writes old new f.next h.next path slot value
+  pub assigned_next : (old new : Netlist) (f h : Cells) (made : Option MemWrite) → IsFrame old ds f
+      → IsSlotFor old ds slot → Writes old new f.next h.next path slot value
+      → IfSome made (Stores old new f.next h.next slot.width slot.holder)
+      → FollowWrite slot.holder made f.tracks h.tracks
       → h.now ≡ f.now → h.assumed ≡ f.assumed → h.log ≡ f.log
       → Assigns old new ds f h path a.Nonblocking (slot ∷ []) (λ g. value_at old g value)
-  assigned_next old new f h own one now same log =
+  assigned_next old new f h made own fits one stores follow now same log =
       let adds = one.adds in
       let P : List ℕ → Type 0 = λ ids. AreNodes new ids in
       let N : List ℕ → Type 0 = λ cells. AreCellsOf new ds cells in
@@ -174,6 +186,9 @@ module _ (ds : List Decl) (path : Option ℕ) (slot : Slot) (value : ℕ) where
           now = subst N (sym now) (cells_on old new ds f.now adds own.now);
           next = cells_written old new ds f.next h.next path slot value one own.next;
           assumed = subst P (sym same) (nodes_on old new f.assumed adds own.assumed);
+          tracks =
+              tracks_written old new f.next h.next path slot value made (are_cells old ds f.next own.next) one stores
+              (slot_in old ds f.next slot own.next fits).held f.tracks h.tracks follow own.tracks;
         };
         back = (λ i. taken_back (log i) (now i));
         comes = λ g t w bits given has slots.

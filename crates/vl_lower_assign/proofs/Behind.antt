@@ -14,6 +14,7 @@ use Rattle.wn_net.specs.Given.{IsGiven}
 use Rattle.wn_net.specs.Changes.{AddsNodes}
 use Rattle.wn_net.proofs.Laws.{adds_on, adds_none, node_on, there_on, value_on, given_on}
 use Rattle.vl_flow_cells.specs.Numbered.{all_cells}
+use Rattle.vl_lower_assign.proofs.Memories.{tracks_on}
 use Rattle.vl_lower_assign.specs.Frames.{AreCellsOf, Stand, Cells, IsFrame, StandsFor, Steps, cell_widths}
 
 -- ---- frames stay
@@ -34,6 +35,7 @@ frame_on old new ds f adds h = record {
   now = cells_on old new ds f.now adds h.now;
   next = cells_on old new ds f.next adds h.next;
   assumed = nodes_on old new f.assumed adds h.assumed;
+  tracks = tracks_on old new f.next f.tracks adds (λ i less. (h.next.node i less).0) h.tracks;
 }
 
 pub met_on : (old new : Netlist) (g : Given) (ids : List ℕ) → AddsNodes old new → AreNodes old ids

@@ -1,5 +1,5 @@
 -- A blocking assignment is written now and for the next cycle.
-use Rattle.std.specs.Prelude.{◌≡◌, ℕ, ◌<◌, List, [], ◌∷◌, ◌++◌, length, slice_index, slice_set, Option}
+use Rattle.std.specs.Prelude.{◌≡◌, ℕ, ◌<◌, List, [], ◌∷◌, ◌++◌, length, slice_index, slice_set, Option, None}
 use Rattle.std.proofs.Common.{sym, arith, subst}
 use Rattle.vl_tree.specs.declared.stmt.AssignKind.TheVariants as a
 use Rattle.vl_size.specs.declared.decl.Decl.{Decl}
@@ -12,6 +12,7 @@ use Rattle.vl_lower_assign.specs.declared.slot.Slot.{Slot}
 use Rattle.vl_lower_assign.specs.Slots.{HoldsCells, IsPath, IsSlotIn, Writes}
 use Rattle.vl_lower_assign.specs.Frames.{Cells, IsFrame, IsSlotFor, Assigns}
 use Rattle.vl_lower_assign.specs.Logs.{noted_of, IsWithin}
+use Rattle.vl_lower_assign.specs.Tracks.{FollowWrite}
 use Rattle.vl_lower_assign.proofs.Assigning.{assigned_now}
 use Rattle.vl_lower_assign.proofs.Behind.{cells_on}
 use Rattle.vl_lower_assign.proofs.Sharing.{shared_writes}
@@ -48,21 +49,23 @@ module _ (old : Netlist) (ds : List Decl) (path : Option ℕ) (slot : Slot) (val
       → slot.holder ≡ holder.Cell at → slice_index f.next at ≡ slice_index f.now at
       → Writes old new f.now h.now path slot value → h.next ≡ slice_set f.next at (slice_index h.now at)
       → h.assumed ≡ f.assumed → h.log ≡ f.log ++ noted_of slot.holder f.now
+      → FollowWrite slot.holder None f.tracks h.tracks
       → Assigns old new ds f h path a.Blocking (slot ∷ []) (λ g. value_at old g value)
-  assigned_shared new h at way there e same one next assumed log =
+  assigned_shared new h at way there e same one next assumed log follow =
       let P : List ℕ → Type 0 = λ cells. Writes old new f.next cells path slot value in
       let held = cell_held at e in
       let two =
       shared_writes old new f.now h.now f.next path slot value at e one (are_cells old ds f.next own.next) held.0
       (next_held at e) same held.1 there in
       assigned_now ds path slot value old new old new f h own fits way there.0 (adds_none new) (adds_none old) one
-      (subst P (sym next) two) now_within assumed log
+      (subst P (sym next) two) now_within assumed log follow
 
   -- by two writes, one behind the other
   pub assigned_apart : (mid new : Netlist) (h : Cells) → IsPath old path → IsNodeOf old slot.count value
       → Writes old mid f.now h.now path slot value → Writes mid new f.next h.next path slot value
       → h.assumed ≡ f.assumed → h.log ≡ f.log ++ noted_of slot.holder f.now
+      → FollowWrite slot.holder None f.tracks h.tracks
       → Assigns old new ds f h path a.Blocking (slot ∷ []) (λ g. value_at old g value)
-  assigned_apart mid new h way there one two assumed log =
+  assigned_apart mid new h way there one two assumed log follow =
       assigned_now ds path slot value old mid mid new f h own fits way there.0 two.adds one.adds one two now_within
-      assumed log
+      assumed log follow

@@ -6,6 +6,8 @@ pub mod Tests
 pub mod Ranges
 pub mod Written
 pub mod Places
+pub mod Memories
+pub mod Following
 pub mod Behind
 pub mod Writing
 pub mod Logging

@@ -5,7 +5,9 @@ use Rattle.std.proofs.Common.{ap, sym, ◌∙◌, arith, subst, ◌⊎◌, inl, 
 use Rattle.fv_bits.specs.Bits.{masked, ones}
 use Rattle.wn_net.specs.Value.{Given}
 use Rattle.wn_net.specs.Next.{written}
-use Rattle.wn_net.specs.Net.{Netlist, IsNode, IsNodeOf, AreNodesOf, value_at, width_at}
+use Rattle.wn_net.specs.declared.parts.MemWrite.{MemWrite}
+use Rattle.wn_net.specs.Given.{IsGiven}
+use Rattle.wn_net.specs.Net.{Netlist, IsNode, IsNodeOf, AreNodesOf, IsWriteOf, value_at}
 use Rattle.wn_net.specs.Changes.{AddsNodes}
 use Rattle.wn_net.proofs.Laws.{there_on, value_on}
 use Rattle.wn_mem.specs.Words.{words_width}
@@ -14,10 +16,10 @@ use Rattle.vl_lower_assign.specs.declared.spread.BitPlace.{BitPlace}
 use Rattle.vl_lower_assign.specs.declared.spread.BitPlace.TheVariants as place
 use Rattle.vl_lower_assign.specs.Places.{IsAt, IsPlaceIn}
 use Rattle.vl_lower_assign.specs.Puts.{put_bits}
-use Rattle.vl_lower_assign.proofs.Masking.{mask_of, masked_is}
+use Rattle.vl_lower_assign.proofs.Masking.{masked_is}
 use Rattle.vl_lower_assign.specs.declared.slot.Holder.{Holder}
 use Rattle.vl_lower_assign.specs.declared.slot.Holder.TheVariants as holder
-use Rattle.vl_lower_assign.specs.Slots.{HoldsCells}
+use Rattle.vl_lower_assign.specs.Slots.{HoldsCells, Stores}
 use Rattle.vl_lower_assign.proofs.Written.{after_put, same_or, set_here, set_there}
 
 pub place_on : (old new : Netlist) (p : BitPlace) → AddsNodes old new → IsPlaceIn old p → IsPlaceIn new p
@@ -92,3 +94,16 @@ pub holds_words : (net : Netlist) (cells : List ℕ) (w : ℕ) (h : Holder) (fir
 holds_words net cells w h first count address e own =
     let r = subst (HoldsCells net cells w) e own in
     record { some = r.0; within = r.1; node = r.2; told = r.3 }
+
+-- a write that leaves these words, which then stand in the cells
+pub words_stored : (old new : Netlist) (cells after words : List ℕ) (w first count address : ℕ) (h : Holder) (x : MemWrite)
+    → h ≡ holder.Word first count address → IsWriteOf new w x
+    → ((g : Given) (k : ℕ) → IsGiven old g → k < count
+    → value_at new g (slice_index words k)
+    ≡ (if (value_at new g x.enable == 1) && (k == value_at new g x.addr)
+    then masked w (value_at new g x.mask) (value_at old g (slice_index cells (first + k))) (value_at new g x.value)
+    else value_at old g (slice_index cells (first + k))))
+    → ((k : ℕ) → k < count → slice_index after (first + k) ≡ slice_index words k) → Stores old new cells after w h x
+words_stored old new cells after words w first count address h x e fits numbers inside =
+    subst (λ (k : Holder). Stores old new cells after w k x) (sym e)
+    (fits, λ g k given less. ap (value_at new g) (inside k less) ∙ numbers g k given less)

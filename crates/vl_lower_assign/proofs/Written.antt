@@ -6,16 +6,15 @@ use Rattle.std.proofs.Common.{ap, sym, ◌∙◌, arith, subst, ◌⊎◌, inl, 
 use Rattle.std.proofs.lemmas.Bool.{eq-eqb, cases_lt}
 use Rattle.std.proofs.lemmas.Bool.Decides.{nat_tests, eqb_tells}
 use Rattle.wn_net.specs.Value.{Given}
-use Rattle.wn_net.specs.Net.{Netlist, IsNode, IsNodeOf, AreNodesOf, value_at, width_at}
+use Rattle.wn_net.specs.Net.{Netlist, IsNodeOf, AreNodesOf, value_at, width_at}
 use Rattle.wn_net.specs.Given.{IsGiven}
 use Rattle.wn_net.specs.Changes.{AddsNodes}
 use Rattle.wn_net.proofs.Laws.{node_on, value_on}
 use Rattle.vl_lower_assign.specs.Places.{IsAt}
 use Rattle.vl_lower_assign.specs.Puts.{put_bits}
-use Rattle.vl_lower_assign.specs.declared.slot.Holder.{Holder}
 use Rattle.vl_lower_assign.specs.declared.slot.Holder.TheVariants as holder
 use Rattle.vl_lower_assign.specs.declared.slot.Slot.{Slot}
-use Rattle.vl_lower_assign.specs.Slots.{AreCells, AreAlike, HoldsCells, Writes, hits, is_among, is_taken}
+use Rattle.vl_lower_assign.specs.Slots.{AreCells, Writes, hits, is_among, is_taken}
 use Rattle.vl_lower_assign.proofs.Ranges.{node_among}
 
 -- ---- lists

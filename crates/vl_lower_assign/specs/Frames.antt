@@ -23,6 +23,8 @@ use Rattle.vl_lower_assign.specs.declared.slot.Slot.{Slot}
 use Rattle.vl_lower_assign.specs.Slots.{hits, is_taken}
 use Rattle.vl_lower_assign.specs.declared.change.Change.{Change}
 use Rattle.vl_lower_assign.specs.declared.frame.Frame.{Frame}
+use Rattle.vl_lower_assign.specs.declared.track.Track.{Track}
+use Rattle.vl_lower_assign.specs.Tracks.{AreTracks}
 
 -- ---- cells in the order of the names
 
@@ -49,9 +51,16 @@ pub record Cells : Type 0 where
   pub next : List ℕ
   pub assumed : List ℕ
   pub log : List Change
+  pub tracks : List Track
 
 abbrev pub cells_of : Frame → Cells
-cells_of f = record { now = f.now.items; next = f.next.items; assumed = f.assumed; log = f.log }
+cells_of f = record {
+  now = f.now.items;
+  next = f.next.items;
+  assumed = f.assumed;
+  log = f.log;
+  tracks = f.tracks.items;
+}
 
 -- the cells before the changes of a log
 abbrev pub taken_back : List Change → List ℕ → List ℕ
@@ -62,6 +71,7 @@ pub record IsFrame (net : Netlist) (ds : List Decl) (f : Cells) : Type 0 where
   pub now : AreCellsOf net ds f.now
   pub next : AreCellsOf net ds f.next
   pub assumed : AreNodes net f.assumed
+  pub tracks : AreTracks net f.next f.tracks
 
 -- In a cycle a frame stands for a state, and for a map that the next cycle will have so far.
 pub record StandsFor (net : Netlist) (g : Given) (ds : List Decl) (f : Cells) (t : State) (w : Values) : Type 0 where

@@ -5,3 +5,4 @@ pub mod Slots
 pub mod Stored
 pub mod Logs
 pub mod Frames
+pub mod Tracks

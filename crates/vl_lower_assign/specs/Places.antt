@@ -1,6 +1,6 @@
 -- Between functions: Where bits are put: at a place that is known, or at one that the numbers of a cycle give. Rule of
 -- this project.
-use Rattle.std.specs.Prelude.{◌≡◌, ℕ, true, ℤ}
+use Rattle.std.specs.Prelude.{◌≡◌, true, ℤ}
 use Rattle.wn_net.specs.Value.{Given}
 use Rattle.wn_net.specs.Net.{Netlist, IsNode, value_at}
 use Rattle.vl_lower_nodes.specs.Points.{GivePlace, is_place}

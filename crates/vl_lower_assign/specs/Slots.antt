@@ -3,8 +3,10 @@
 use Rattle.std.specs.Prelude.{◌≡◌, ℕ, ◌+◌, ◌<◌, ◌≤◌, ◌==◌, ◌&&◌, nat_le, nat_lt}
 use Rattle.std.specs.Prelude.{Bool, true, false, Option, Some, None, List}
 use Rattle.std.specs.Prelude.{length, slice_index, if◌then◌else◌, ℤ}
+use Rattle.fv_bits.specs.Bits.{masked}
 use Rattle.wn_net.specs.Value.{Given}
-use Rattle.wn_net.specs.Net.{Netlist, IsNode, IsNodeOf, value_at, width_at}
+use Rattle.wn_net.specs.declared.parts.MemWrite.{MemWrite}
+use Rattle.wn_net.specs.Net.{Netlist, IsNode, IsNodeOf, IsWriteOf, value_at, width_at}
 use Rattle.wn_net.specs.Given.{IsGiven}
 use Rattle.wn_net.specs.Changes.{AddsNodes}
 use Rattle.vl_lower_assign.specs.Places.{IsPlaceIn, IsAt}
@@ -79,3 +81,14 @@ pub record Writes (old new : Netlist) (before after : List ℕ) (path : Option �
       ≡ (if is_taken old g path && hits old g slot.holder i
       then put_bits slot.count slot.width p (value_at old g value) (value_at old g (slice_index before i))
       else value_at old g (slice_index before i))
+
+-- The write is one to the words of a slot: it leaves of the words before in each cycle those after.
+abbrev pub Stores : Netlist → Netlist → List ℕ → List ℕ → ℕ → Holder → MemWrite → Type 0
+Stores old new before after width (holder.Word first count address) w =
+    IsWriteOf new width w
+    × ((g : Given) (k : ℕ) → IsGiven old g → k < count
+    → value_at new g (slice_index after (first + k))
+    ≡ (if (value_at new g w.enable == 1) && (k == value_at new g w.addr)
+    then masked width (value_at new g w.mask) (value_at old g (slice_index before (first + k))) (value_at new g w.value)
+    else value_at old g (slice_index before (first + k))))
+Stores old new before after width h w = ⊥

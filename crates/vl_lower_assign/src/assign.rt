@@ -1,23 +1,24 @@
 //! Bits of names assigned in a frame.
 #![tactic(auto, using(wn_net::proofs::Laws::additions))]
 
-ghost use Rattle.std.specs.Prelude.{◌≡◌, ◌∷◌, [], ◌++◌, ◌+◌, ◌≤◌, OnOk, IfSome, length, slice_index};
+ghost use Rattle.std.specs.Prelude.{◌≡◌, ◌∷◌, [], ◌++◌, ◌+◌, ◌≤◌, IfOk, OnOk, IfSome, length, slice_index};
 ghost use Rattle.vl_tree.specs.declared.stmt.AssignKind.TheVariants as a;
 ghost use Rattle.wn_net.specs.Net.{IsNodeOf, value_at};
 ghost use Rattle.vl_lower_assign.specs.declared.slot.Holder.TheVariants as of;
-ghost use Rattle.vl_lower_assign.specs.Slots.{AreCells, IsPath, IsSlotIn, Writes};
+ghost use Rattle.vl_lower_assign.specs.Slots.{AreCells, IsPath, IsSlotIn, Stores, Writes};
 ghost use Rattle.vl_lower_assign.specs.Frames.{AllSlots, Assigns, IsFrame, IsSlotFor, cells_of, slots_width};
 ghost use Rattle.vl_lower_assign.specs.Logs.{noted, noted_of, IsWithin};
 
 use crate::change::Change;
 use crate::frame::Frame;
 use crate::slot::{Holder, Slot};
+use crate::tracking::keep_write;
 use crate::write::write_slot;
 use fv_text::Memory;
 use std::alloc::Global;
 use vl_size::Decls;
 use vl_tree::AssignKind;
-use wn_net::{Net, NodeId};
+use wn_net::{MemWrite, Net, NodeId};
 
 /// Keeps in the log what stands in so many cells now.
 fn note(frame: &mut Frame, first: usize, count: usize) -> Result<(), Memory>
@@ -25,6 +26,7 @@ fn note(frame: &mut Frame, first: usize, count: usize) -> Result<(), Memory>
     ensures now { OnOk result (frame.new.now.items ≡ frame.old.now.items) }
     ensures next { OnOk result (frame.new.next.items ≡ frame.old.next.items) }
     ensures assumed { OnOk result (frame.new.assumed ≡ frame.old.assumed) }
+    ensures tracks { OnOk result (frame.new.tracks.items ≡ frame.old.tracks.items) }
     ensures log { OnOk result (frame.new.log ≡ frame.old.log ++ noted first count frame.old.now.items) }
 {
     for cell in first..first + count {
@@ -40,6 +42,7 @@ fn note_slot(frame: &mut Frame, holder: Holder) -> Result<(), Memory>
     ensures now { OnOk result (frame.new.now.items ≡ frame.old.now.items) }
     ensures next { OnOk result (frame.new.next.items ≡ frame.old.next.items) }
     ensures assumed { OnOk result (frame.new.assumed ≡ frame.old.assumed) }
+    ensures tracks { OnOk result (frame.new.tracks.items ≡ frame.old.tracks.items) }
     ensures log { OnOk result (frame.new.log ≡ frame.old.log ++ noted_of holder frame.old.now.items) }
 {
     match holder {
@@ -72,7 +75,7 @@ fn shared_cell(frame: &Frame, holder: Holder) -> Option<usize>
     }
 }
 
-/// Writes a number to a slot of cells.
+/// Writes a number to a slot of cells. The answer: the write that did it, where the slot is one of several words.
 fn write_cells(
     alloc: Global,
     net: &mut Net,
@@ -80,15 +83,17 @@ fn write_cells(
     cells: &mut Vec<NodeId>,
     slot: Slot,
     value: NodeId,
-) -> Result<(), Memory>
+) -> Result<Option<MemWrite>, Memory>
     requires path { IsPath net.old path }
     requires cells { AreCells net.old cells.old.items }
     requires slot { IsSlotIn net.old cells.old.items slot }
     requires value { IsNodeOf net.old slot.count value }
-    ensures { OnOk result (Writes net.old net.new cells.old.items cells.new.items path slot value) }
+    ensures writes { OnOk result (Writes net.old net.new cells.old.items cells.new.items path slot value) }
+    ensures stores { IfOk result (λ made. IfSome made
+        (Stores net.old net.new cells.old.items cells.new.items slot.width slot.holder)) }
 {
-    write_slot(alloc, net, path, cells.as_mut_slice(), slot, value)?;
-    Ok(())
+    let made = write_slot(alloc, net, path, cells.as_mut_slice(), slot, value)?;
+    Ok(made)
 }
 
 /// Writes a number to a slot, now and for the next cycle.
@@ -109,6 +114,8 @@ fn write_both(
         a.Blocking (slot ∷ []) (λ g. value_at net.old g value)) }
 {
     note_slot(frame, slot.holder)?;
+    let cells = frame.next.len();
+    keep_write(&mut frame.tracks, cells, slot.holder, None)?;
     let shared = shared_cell(frame, slot.holder);
     write_cells(alloc, net, path, &mut frame.now, slot, value)?;
     match shared {
@@ -116,7 +123,10 @@ fn write_both(
             frame.next[at] = frame.now[at];
             Ok(())
         }
-        None => Ok(write_cells(alloc, net, path, &mut frame.next, slot, value)?),
+        None => {
+            write_cells(alloc, net, path, &mut frame.next, slot, value)?;
+            Ok(())
+        }
     }
 }
 
@@ -137,7 +147,9 @@ fn write_next(
     ensures { OnOk result (Assigns net.old net.new decls.now (cells_of frame.old) (cells_of frame.new) path
         a.Nonblocking (slot ∷ []) (λ g. value_at net.old g value)) }
 {
-    Ok(write_cells(alloc, net, path, &mut frame.next, slot, value)?)
+    let made = write_cells(alloc, net, path, &mut frame.next, slot, value)?;
+    let cells = frame.next.len();
+    Ok(keep_write(&mut frame.tracks, cells, slot.holder, made)?)
 }
 
 /// Writes a number to a slot.

@@ -1,4 +1,5 @@
 use crate::change::Change;
+use crate::track::Track;
 use fv_text::List;
 use wn_net::NodeId;
 
@@ -13,4 +14,7 @@ pub struct Frame {
     pub assumed: List<NodeId>,
     /// What stood in `now` before it was written, the last write behind the others.
     pub log: List<Change>,
+    /// The memories of the net whose words stand in cells, by their numbers there; the cells of each stand in front of
+    /// those of the later ones.
+    pub tracks: Vec<Track>,
 }

@@ -6,6 +6,7 @@
 #![tactic(auto)]
 
 mod assign;
+mod begin;
 mod bits;
 mod change;
 mod frame;
@@ -13,9 +14,12 @@ mod path;
 mod puts_law;
 mod slot;
 mod spread;
+mod track;
+mod tracking;
 mod write;
 
 pub use assign::assign_slots;
+pub use begin::{copy_tracks, tracks_over};
 pub use bits::put;
 pub use change::Change;
 pub use frame::Frame;
@@ -23,3 +27,4 @@ pub use path::{path_unless, path_where};
 pub use puts_law::puts_are_assignments;
 pub use slot::{Holder, Slot};
 pub use spread::{BitPlace, Spread};
+pub use track::Track;

@@ -2,14 +2,15 @@
 #![tactic(auto, using(wn_net::proofs::Laws::additions))]
 
 ghost use Rattle.std.specs.Prelude.{◌≡◌, ◌+◌, ◌<◌, ◌≤◌, ◌==◌, ◌&&◌, nat_lt, ℕ, ℤ, IfOk, OnOk, length, slice_index};
-ghost use Rattle.std.specs.Prelude.{if◌then◌else◌};
+ghost use Rattle.std.specs.Prelude.{if◌then◌else◌, IfSome};
+ghost use Rattle.fv_bits.specs.Bits.{masked};
 ghost use Rattle.wn_net.specs.Value.{Given};
-ghost use Rattle.wn_net.specs.Net.{IsNode, IsNodeOf, AreNodesOf, width_at, value_at};
+ghost use Rattle.wn_net.specs.Net.{IsNode, IsNodeOf, IsWriteOf, AreNodesOf, width_at, value_at};
 ghost use Rattle.wn_net.specs.Given.{IsGiven};
 ghost use Rattle.wn_net.specs.Changes.{AddsNodes};
 ghost use Rattle.vl_lower_assign.specs.Places.{IsAt, IsPlaceIn};
 ghost use Rattle.vl_lower_assign.specs.Puts.{put_bits};
-ghost use Rattle.vl_lower_assign.specs.Slots.{AreAlike, AreCells, IsPath, IsSlotIn, Writes, is_taken};
+ghost use Rattle.vl_lower_assign.specs.Slots.{AreAlike, AreCells, IsPath, IsSlotIn, Stores, Writes, is_taken};
 
 use crate::path::{test_of, where_taken};
 use crate::slot::{Holder, Slot};
@@ -43,7 +44,8 @@ fn written_cell(
     Ok(node)
 }
 
-/// The words after bits were written to the one at an address where the path is taken.
+/// The words after bits were written to the one at an address where the path is taken. The answer: the write
+/// that leaves them.
 fn write_words(
     alloc: Global,
     net: &mut Net,
@@ -52,7 +54,7 @@ fn write_words(
     address: NodeId,
     slot: Slot,
     value: NodeId,
-) -> Result<(), Memory>
+) -> Result<MemWrite, Memory>
     requires path { IsPath net.old path }
     requires some { 1 ≤ length words.old }
     requires words { AreNodesOf net.old slot.width words.old }
@@ -68,6 +70,13 @@ fn write_words(
         ≡ (if is_taken net.old g path && (k == value_at net.old g address)
         then put_bits slot.count slot.width p (value_at net.old g value) (value_at net.old g (slice_index words.old k))
         else value_at net.old g (slice_index words.old k))) }
+    ensures fits { IfOk result (IsWriteOf net.new slot.width) }
+    ensures stores { IfOk result (λ w. (g : Given) (k : ℕ) → IsGiven net.old g → k < length words.old
+        → value_at net.new g (slice_index words.new k)
+        ≡ (if (value_at net.new g w.enable == 1) && (k == value_at net.new g w.addr)
+        then masked slot.width (value_at net.new g w.mask) (value_at net.old g (slice_index words.old k))
+        (value_at net.new g w.value)
+        else value_at net.old g (slice_index words.old k))) }
 {
     // Asked for what it says of the net: numbers are below 2 to their widths.
     let _count = net.width(value);
@@ -80,7 +89,7 @@ fn write_words(
         value: spread.bits,
     };
     write_all(alloc, net, words, &write)?;
-    Ok(())
+    Ok(write)
 }
 
 /// Puts words in the cells from the first on.
@@ -96,7 +105,7 @@ fn put_back(cells: &mut [NodeId], first: usize, words: &[NodeId])
 }
 
 /// Writes the bits of a node to a slot where the path is taken (IEEE 1364-2005, sections 4.2.1 and 9.2); of a word past
-/// the last one and of bits past the cell they are dropped.
+/// the last one and of bits past the cell they are dropped. The answer: the write that did it, where the slot is one of several words.
 pub fn write_slot(
     alloc: Global,
     net: &mut Net,
@@ -104,18 +113,20 @@ pub fn write_slot(
     cells: &mut [NodeId],
     slot: Slot,
     value: NodeId,
-) -> Result<(), Memory>
+) -> Result<Option<MemWrite>, Memory>
     requires path { IsPath net.old path }
     requires cells { AreCells net.old cells.old }
     requires slot { IsSlotIn net.old cells.old slot }
     requires value { IsNodeOf net.old slot.count value }
-    ensures { OnOk result (Writes net.old net.new cells.old cells.new path slot value) }
+    ensures writes { OnOk result (Writes net.old net.new cells.old cells.new path slot value) }
+    ensures stores { IfOk result (λ made. IfSome made
+        (Stores net.old net.new cells.old cells.new slot.width slot.holder)) }
 {
     match slot.holder {
         Holder::Cell(at) => {
             let node = written_cell(net, path, cells[at], slot.place, value)?;
             cells[at] = node;
-            Ok(())
+            Ok(None)
         }
         Holder::Word {
             first,
@@ -123,10 +134,10 @@ pub fn write_slot(
             address,
         } => {
             let mut words = Vec::from_slice(alloc, &cells[first..first + count])?;
-            write_words(alloc, net, path, words.as_mut_slice(), address, slot, value)?;
+            let write = write_words(alloc, net, path, words.as_mut_slice(), address, slot, value)?;
             put_back(cells, first, words.as_slice());
-            Ok(())
+            Ok(Some(write))
         }
-        Holder::Nowhere => Ok(()),
+        Holder::Nowhere => Ok(None),
     }
 }

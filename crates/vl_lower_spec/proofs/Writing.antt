@@ -1,24 +1,22 @@
 -- Words written one after the other, and the state that comes of it.
 use Rattle.std.specs.Prelude.{◌≡◌, refl, ℕ, zero, suc, ◌+◌, ◌<◌, ◌^◌, List, [], ◌∷◌, ◌++◌, length, map}
-use Rattle.std.specs.Prelude.{slice_get, slice_index, slice_set, bit_and, bit_or}
+use Rattle.std.specs.Prelude.{slice_index, slice_set, bit_and, bit_or}
 use Rattle.std.proofs.Common.{ap, sym, ◌∙◌, arith}
 use Rattle.std.proofs.lemmas.Nat.{and_comm, and_mask}
 use Rattle.std.specs.Int.Bits.{and_zero_r, or_zero_r}
 use Rattle.std.proofs.Math.Nat.{mod-eq_of_lt}
 use Rattle.fv_bits.specs.Bits.{complement, masked, ones}
 use Rattle.vl_size.specs.Size.{Values}
-use Rattle.vl_lower_spec.specs.Maps.{cells_named, spot_number}
+use Rattle.vl_lower_spec.specs.Maps.{spot_number}
 use Rattle.wn_net.specs.declared.names.Names.{Names}
 use Rattle.wn_net.specs.declared.names.Spot.{Spot}
-use Rattle.wn_net.specs.declared.parts.Mem.{Mem}
 use Rattle.wn_net.specs.declared.parts.MemWrite.{MemWrite}
 use Rattle.wn_net.specs.declared.parts.Reg.{Reg}
 use Rattle.wn_net.specs.Value.{Given, word_at}
 use Rattle.wn_net.specs.Net.{Netlist, value_at, values_of}
-use Rattle.wn_net.specs.Given.{AreMemsOf, HasWords}
-use Rattle.wn_net.specs.Next.{next_mems, write, write_each, written}
+use Rattle.wn_net.specs.Next.{write, write_each, written}
 use Rattle.vl_lower_spec.specs.Sources.{AreEach}
-use Rattle.vl_lower_spec.specs.Edges.{IsNextOf, IsWritten, NextStatesAreNext, WriteWords, WritesWord}
+use Rattle.vl_lower_spec.specs.Edges.{IsNextOf, NextStatesAreNext, WriteWords, WritesWord}
 
 -- under a mask of ones all bits are new
 all_new : (w from to : ℕ) → to < 2 ^ w → masked w (ones w) from to ≡ to
@@ -83,25 +81,13 @@ module _ (net : Netlist) (names : Names) (g : Given) (w : Values) where
   regs_next (r ∷ rs) [] h = absurd h
   regs_next (r ∷ rs) (p ∷ ps) h = λ j. h.0 j ∷ regs_next rs ps h.1 j
 
-  mems_next : (ms : List Mem) (ats : List ℕ) (mems : List (List ℕ)) → AreMemsOf ms mems
-      → AreEach (IsWritten net names g w) ms ats
-      → next_mems (values_of net g) ms mems ≡ map (λ m. map w (cells_named (slice_get names.list m))) ats
-  mems_next [] [] [] own h = refl
-  mems_next [] [] (q ∷ mems) own h = absurd own
-  mems_next [] (a ∷ ats) mems own h = absurd h
-  mems_next (m ∷ ms) [] mems own h = absurd h
-  mems_next (m ∷ ms) (a ∷ ats) [] own h = absurd own
-  mems_next (m ∷ ms) (a ∷ ats) (q ∷ mems) own h =
-      let is : IsWritten net names g w m a = h.0 in
-      let has : HasWords m q = own.0 in
-      let here : write_each (values_of net g) m.width q m.writes
-      ≡ map w (cells_named (slice_get names.list a)) =
-      all_written net g m.width w [] q 0 m.writes (cells_named (slice_get names.list a)) refl
-      (has.each ∙ sym is.count) is.words in
-      λ j. here j ∷ mems_next ms ats mems own.1 h.1 j
+-- words of which each is written with a number
+pub words_written : (net : Netlist) (g : Given) (width : ℕ) (w : Values) (words : List ℕ) (xs : List MemWrite)
+    (ns : List (List ℕ)) → length words ≡ length ns → WriteWords net g width w 0 xs ns
+    → write_each (values_of net g) width words xs ≡ map w ns
+words_written net g width w words xs ns many h = all_written net g width w [] words 0 xs ns refl many h
 
 pub next_is : NextStatesAreNext
 next_is net names g w is regs mems =
     let rs = regs_next net names g w net.regs names.regs regs in
-    let ms = mems_next net names g w net.mems names.mems g.state.mems is.state.mems mems in
-    λ j. record { regs = rs j; mems = ms j }
+    λ j. record { regs = rs j; mems = mems j }

@@ -1,17 +1,16 @@
 -- Between functions: Registers and memories that have in the next cycle the numbers of a map. Rule of this project.
-use Rattle.std.specs.Prelude.{◌≡◌, ℕ, ◌+◌, ◌<◌, ◌^◌, List, [], ◌∷◌, length, slice_get}
+use Rattle.std.specs.Prelude.{◌≡◌, ℕ, ◌+◌, ◌<◌, ◌^◌, List, [], ◌∷◌, map, slice_get}
 use Rattle.fv_bits.specs.Bits.{ones}
 use Rattle.vl_size.specs.Size.{Values}
 use Rattle.vl_lower_spec.specs.Maps.{cells_named, spot_number, state_of}
 use Rattle.wn_net.specs.declared.names.Names.{Names}
 use Rattle.wn_net.specs.declared.names.Spot.{Spot}
-use Rattle.wn_net.specs.declared.parts.Mem.{Mem}
 use Rattle.wn_net.specs.declared.parts.MemWrite.{MemWrite}
 use Rattle.wn_net.specs.declared.parts.Reg.{Reg}
 use Rattle.wn_net.specs.Value.{Given}
-use Rattle.wn_net.specs.Net.{Netlist, value_at}
+use Rattle.wn_net.specs.Net.{Netlist, value_at, values_of}
 use Rattle.wn_net.specs.Given.{IsGiven}
-use Rattle.wn_net.specs.Next.{next_state}
+use Rattle.wn_net.specs.Next.{next_mems, next_state}
 use Rattle.vl_lower_spec.specs.Sources.{AreEach}
 
 -- a register's next node has the named bits of the map
@@ -33,15 +32,16 @@ WriteWords net g width w address (x ∷ xs) (n ∷ ns) =
     WritesWord net g width address (w n) x × WriteWords net g width w (address + 1) xs ns
 WriteWords net g width w address xs ns = ⊥
 
--- a memory's words are written, each with the number of its name
-pub record IsWritten (net : Netlist) (names : Names) (g : Given) (w : Values) (m : Mem) (at : ℕ) : Type 0 where
-  pub count : length (cells_named (slice_get names.list at)) ≡ m.words
-  pub words : WriteWords net g m.width w 0 m.writes (cells_named (slice_get names.list at))
+-- the words of each memory are, behind its writes, the numbers of its names
+abbrev pub AreWritten : Netlist → Names → Given → Values → Type 0
+AreWritten net names g w =
+    next_mems (values_of net g) net.mems g.state.mems
+    ≡ map (λ at. map w (cells_named (slice_get names.list at))) names.mems
 
 -- ---- the law: the next state is that of the map
 
 abbrev pub NextStatesAreNext : Type 0
 NextStatesAreNext =
     (net : Netlist) (names : Names) (g : Given) (w : Values) → IsGiven net g
-    → AreEach (IsNextOf net names g w) net.regs names.regs → AreEach (IsWritten net names g w) net.mems names.mems
+    → AreEach (IsNextOf net names g w) net.regs names.regs → AreWritten net names g w
     → next_state net g ≡ state_of names w

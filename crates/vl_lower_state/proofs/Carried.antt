@@ -1,11 +1,12 @@
 -- What stays as a net grows: constants, writes of words, and memories that may be written.
-use Rattle.std.specs.Prelude.{◌≡◌, refl, ℕ, zero, suc, ◌+◌, List, [], ◌∷◌, ◌++◌, map, slice_index}
-use Rattle.std.proofs.Common.{ap, ◌∙◌, arith}
+use Rattle.std.specs.Prelude.{◌≡◌, refl, ℕ, zero, suc, ◌+◌, List, [], ◌∷◌, ◌++◌, map, slice_index, Option, Some, None, IfSome}
+use Rattle.std.proofs.Common.{ap, ◌∙◌, arith, subst}
 use Rattle.fv_bits.specs.Bits.{ones}
 use Rattle.wn_net.specs.declared.parts.Mem.{Mem}
 use Rattle.wn_net.specs.declared.parts.MemWrite.{MemWrite}
 use Rattle.wn_net.specs.Changes.{AddsNodes, Keeps, with_write}
-use Rattle.wn_net.specs.Net.{IsNodeOf, Netlist}
+use Rattle.std.specs.List.{AllByRecursion}
+use Rattle.wn_net.specs.Net.{IsNodeOf, IsWriteOf, Netlist}
 use Rattle.vl_lower_state.specs.Stores.{AddsWrites, IsConstant, MayStore, PutNodes, PutsNode}
 
 pub keeps_same : (net : Netlist) → Keeps net net
@@ -48,6 +49,24 @@ module _ (old new : Netlist) (keeps : Keeps old new) where
     node = λ k less. node_kept m.width (slice_index cells (first + k)) (h.node k less);
   }
 
+  pub write_kept : (w : ℕ) (x : MemWrite) → IsWriteOf old w x → IsWriteOf new w x
+  write_kept w x h = record {
+    enable = node_kept 1 x.enable h.enable;
+    addr = omega (arith, h.addr, keeps.longer);
+    mask = node_kept w x.mask h.mask;
+    value = node_kept w x.value h.value;
+  }
+
+  pub all_writes_kept : (w : ℕ) (xs : List MemWrite) → AllByRecursion (IsWriteOf old w) xs
+      → AllByRecursion (IsWriteOf new w) xs
+  all_writes_kept w [] h = tt
+  all_writes_kept w (x ∷ xs) h = (write_kept w x h.0, all_writes_kept w xs h.1)
+
+  pub fit_kept : (o : Option (List MemWrite)) (w u : ℕ) → w ≡ u → IfSome o (AllByRecursion (IsWriteOf old w))
+      → IfSome o (AllByRecursion (IsWriteOf new u))
+  fit_kept None w u e h = tt
+  fit_kept (Some xs) w u e h = subst (λ n. AllByRecursion (IsWriteOf new n) xs) e (all_writes_kept w xs h)
+
 -- ---- nodes and writes that are added
 
 pub writes_none : (old new : Netlist) → AddsNodes old new → AddsWrites old new
@@ -59,6 +78,9 @@ writes_none old new h = record {
   words = ap (map (λ m. m.words)) h.mems;
   starts = ap (map (λ m. m.init)) h.mems;
 }
+
+pub same_writes : (net : Netlist) → AddsWrites net net
+same_writes net = record { regs = refl; inputs = refl; assumes = refl; widths = refl; words = refl; starts = refl }
 
 pub writes_on : (a b c : Netlist) → AddsWrites a b → AddsWrites b c → AddsWrites a c
 writes_on a b c f g = record {

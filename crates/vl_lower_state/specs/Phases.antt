@@ -22,7 +22,7 @@ use Rattle.wn_net.specs.declared.names.Names.{Names}
 use Rattle.vl_lower_assign.specs.Frames.{Cells, Stand}
 use Rattle.vl_lower_spec.specs.Built.{AreRanged}
 use Rattle.vl_lower_spec.specs.Sources.{AreEach}
-use Rattle.vl_lower_spec.specs.Edges.{IsNextOf, IsWritten}
+use Rattle.vl_lower_spec.specs.Edges.{AreWritten, IsNextOf}
 use Rattle.vl_lower_cell_laws.specs.Cycles.{SettlesAll, TicksAll}
 use Rattle.vl_lower_cell_laws.specs.Entries.{MemoriesStand, all_entries}
 use Rattle.vl_lower_cell_laws.specs.Listing.{AreKeeps, HasSources, Keeping}
@@ -41,7 +41,7 @@ pub record BeginCycle (ds : List Decl) (ps : List Part) (net : Netlist) (names :
 pub record ClosesCycle (ds : List Decl) (net : Netlist) (names : Names) (cells : Cells) (g : Given) (next : Values)
     : Type 0 where
   pub regs : AreEach (IsNextOf net names g next) net.regs names.regs
-  pub mems : AreEach (IsWritten net names g next) net.mems names.mems
+  pub mems : AreWritten net names g next
 
 pub record ArePhases (ds : List Decl) (drivers : List Driver) (starts : List Start) (sequence : List ℕ) (net : Netlist)
     (names : Names) : Type 0 where

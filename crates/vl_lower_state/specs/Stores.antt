@@ -1,12 +1,15 @@
 -- Between functions: Writes that put nodes, the cells of the next cycle, into all words of memories. Rule of this
 -- project.
 use Rattle.std.specs.Prelude.{◌≡◌, ℕ, ◌+◌, ◌<◌, ◌≤◌, List, [], ◌∷◌, length, map, take, drop, slice_index}
+use Rattle.std.specs.Prelude.{◌⊎◌, Some, IfSome}
+use Rattle.std.specs.List.{AllByRecursion}
 use Rattle.fv_bits.specs.Bits.{ones}
 use Rattle.wn_net.specs.declared.parts.Mem.{Mem}
 use Rattle.wn_net.specs.declared.parts.MemWrite.{MemWrite}
 use Rattle.wn_net.specs.Value.{Given}
-use Rattle.wn_net.specs.Net.{IsNodeOf, Netlist, value_at}
-use Rattle.vl_lower_spec.specs.Sources.{AreEach}
+use Rattle.wn_net.specs.Net.{IsNodeOf, IsWriteOf, Netlist, value_at}
+use Rattle.vl_lower_assign.specs.declared.track.Track.{Track}
+use Rattle.vl_lower_assign.specs.Tracks.{track_at}
 
 -- the node has this number in each cycle
 pub record IsConstant (net : Netlist) (bits number id : ℕ) : Type 0 where
@@ -32,13 +35,28 @@ PutNodes net width address xs ns = ⊥
 abbrev pub words_at : List ℕ → Mem → ℕ → List ℕ
 words_at cells m first = take m.words (drop first cells)
 
--- a memory's words are written, each with its cell
-abbrev pub IsStored : Netlist → List ℕ → Mem → ℕ → Type 0
-IsStored net cells m first = PutNodes net m.width 0 m.writes (words_at cells m first)
+-- The memory with a number has the writes that were kept beside its cells, as many as it has words from the first on.
+pub record IsKeptAs (tracks : List Track) (number : ℕ) (m : Mem) (first : ℕ) : Type 0 where
+  pub there : number < length tracks
+  pub first_is : (track_at tracks number).first ≡ first
+  pub count_is : (track_at tracks number).count ≡ m.words
+  pub writes_are : (track_at tracks number).writes ≡ Some m.writes
 
--- of each memory, with the number of its first cell
-abbrev pub AreStored : Netlist → List ℕ → List Mem → List ℕ → Type 0
-AreStored net cells ms firsts = AreEach (IsStored net cells) ms firsts
+-- a memory's words are written, each with its cell, or by the writes that were kept
+abbrev pub IsStored : Netlist → List ℕ → List Track → ℕ → Mem → ℕ → Type 0
+IsStored net cells tracks number m first =
+    PutNodes net m.width 0 m.writes (words_at cells m first) ⊎ IsKeptAs tracks number m first
+
+-- of each memory, the first of which has a number, with the number of its first cell
+abbrev pub AreStored : Netlist → List ℕ → List Track → ℕ → List Mem → List ℕ → Type 0
+AreStored net cells tracks number [] [] = Unit {0}
+AreStored net cells tracks number (m ∷ ms) (first ∷ firsts) =
+    IsStored net cells tracks number m first × AreStored net cells tracks (number + 1) ms firsts
+AreStored net cells tracks number ms firsts = ⊥
+
+-- the writes that are known of the memory with a number fit it
+abbrev pub KeptFit : Netlist → List Track → ℕ → ℕ → Type 0
+KeptFit net tracks width number = IfSome (track_at tracks number).writes (AllByRecursion (IsWriteOf net width))
 
 -- The condition: nothing is written yet, and there is a cell of the width for each word.
 pub record MayStore (net : Netlist) (cells : List ℕ) (m : Mem) (first : ℕ) : Type 0 where

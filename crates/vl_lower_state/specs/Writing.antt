@@ -3,7 +3,8 @@ use Rattle.std.specs.Prelude.{◌≡◌, ℕ, zero, suc, List, [], ◌∷◌, Op
 use Rattle.wn_net.specs.declared.parts.Mem.{Mem}
 use Rattle.wn_net.specs.declared.parts.MemWrite.{MemWrite}
 use Rattle.wn_net.specs.Net.{Netlist}
-use Rattle.vl_lower_state.specs.Stores.{MayStore, PutNodes, words_at}
+use Rattle.vl_lower_assign.specs.declared.track.Track.{Track}
+use Rattle.vl_lower_state.specs.Stores.{IsStored, MayStore}
 
 -- the memories, but that the one at a place has these writes
 abbrev pub with_writes : ℕ → List MemWrite → List Mem → List Mem
@@ -25,8 +26,8 @@ pub record IsAt (net : Netlist) (cells : List ℕ) (mem first : ℕ) : Type 0 wh
   pub may : MayStore net cells memory first
 
 -- It alone has writes that it had not, for each of its words.
-pub record IsStoredAt (old new : Netlist) (cells : List ℕ) (mem first : ℕ) : Type 0 where
+pub record IsStoredAt (old new : Netlist) (cells : List ℕ) (tracks : List Track) (mem first : ℕ) : Type 0 where
   pub memory : Mem
   pub there : slice_get old.mems mem ≡ Some memory
   pub others : new.mems ≡ with_writes mem (writes_at new.mems mem) old.mems
-  pub stored : PutNodes new memory.width 0 (writes_at new.mems mem) (words_at cells memory first)
+  pub stored : IsStored new cells tracks mem (record memory { writes = writes_at new.mems mem }) first

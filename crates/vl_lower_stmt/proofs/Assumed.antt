@@ -22,6 +22,8 @@ use Rattle.wn_net.specs.Changes.{AddsNodes}
 use Rattle.wn_net.proofs.Laws.{adds_on, given_on}
 use Rattle.vl_lower_assign.specs.Slots.{IsPath, is_taken}
 use Rattle.vl_lower_assign.specs.Frames.{Cells, IsFrame, StandsFor, Stand, AreCellsOf, taken_back}
+use Rattle.vl_lower_assign.specs.Tracks.{AreTracks}
+use Rattle.vl_lower_assign.proofs.Memories.{tracks_on}
 use Rattle.vl_lower_assign.proofs.Behind.{cells_on, nodes_on, met_on, met_back, stand_on}
 use Rattle.vl_lower_stmt.specs.Executes.{Executes}
 use Rattle.vl_lower_stmt.proofs.Branches.{Tests, told}
@@ -81,9 +83,9 @@ module _ (ds : List Decl) where
       → IsNodeOf new 1 met
       → ((g : Given) → IsGiven mid g
       → value_at new g met ≡ bit (not (is_taken mid g path) || (value_at mid g test == 1)))
-      → h.now ≡ f.now → h.next ≡ f.next → h.log ≡ f.log → h.assumed ≡ f.assumed ++ met ∷ []
+      → h.now ≡ f.now → h.next ≡ f.next → h.log ≡ f.log → h.tracks ≡ f.tracks → h.assumed ≡ f.assumed ++ met ∷ []
       → Executes ds old new f h path (assume attrs p e)
-  assumed old mid new f h path test met attrs p e own way tests adds there is now next log more =
+  assumed old mid new f h path test met attrs p e own way tests adds there is now next log tracks more =
       let all = adds_on old mid new tests.adds adds in
       let N : List ℕ → Type 0 = λ cells. AreCellsOf new ds cells in
       let A : List ℕ → Type 0 = λ ids. AreNodes new ids in
@@ -95,6 +97,10 @@ module _ (ds : List Decl) where
           assumed =
               subst A (sym more)
               (nodes_more new f.assumed met (nodes_on old new f.assumed all own.assumed) there.0);
+          tracks =
+              subst (AreTracks new h.next) (sym tracks)
+              (subst (λ (cells : List ℕ). AreTracks new cells f.tracks) (sym next)
+              (tracks_on old new f.next f.tracks all (λ i less. (own.next.node i less).0) own.tracks));
         };
         back = λ i. taken_back (log i) (now i);
         comes = λ g t w given has.

@@ -13,6 +13,8 @@ use Rattle.wn_net.specs.Net.{Netlist, AreNodes, value_at}
 use Rattle.wn_net.specs.Changes.{AddsNodes}
 use Rattle.wn_net.proofs.Laws.{node_on, value_on}
 use Rattle.vl_lower_assign.specs.Frames.{AreCellsOf, Cells, IsFrame, Stand, StandsFor, cell_widths}
+use Rattle.vl_lower_assign.specs.Tracks.{AreTracks}
+use Rattle.vl_lower_assign.proofs.Memories.{no_tracks}
 use Rattle.vl_lower_assign.proofs.Behind.{cell_there}
 use Rattle.vl_lower_stmt.specs.First.{IsZeroFrame}
 use Rattle.vl_lower_stmt.specs.Zeros.{AreZeros, IsZero, PutsZeros}
@@ -92,6 +94,7 @@ module _ (net : Netlist) (ds : List Decl) where
     now = zero_cells f.now h.now;
     next = zero_cells f.next h.next;
     assumed = subst (AreNodes net) (sym h.assumed) tt;
+    tracks = subst (AreTracks net f.next) (sym h.tracks) (no_tracks net f.next);
   }
 
   pub stands_for_zeros : (g : Given) (f : Cells) → IsZeroFrame net ds f

@@ -24,11 +24,12 @@ use Rattle.vl_lower_stmt.specs.Zeros.{AreZeros}
 abbrev pub nothing_given : Given
 nothing_given = record { inputs = []; state = record { regs = []; mems = [] } }
 
--- nothing was assumed, and all numbers are 0
+-- nothing was assumed, all numbers are 0, and there is no memory
 pub record IsZeroFrame (net : Netlist) (ds : List Decl) (f : Cells) : Type 0 where
   pub now : AreZeros net (cell_widths ds) f.now
   pub next : AreZeros net (cell_widths ds) f.next
   pub assumed : f.assumed ≡ []
+  pub tracks : f.tracks ≡ []
 
 -- ---- starts over a map
 

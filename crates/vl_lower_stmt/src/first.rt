@@ -28,6 +28,7 @@ fn zero_frame(alloc: Global, net: &mut Net, decls: &Decls) -> Result<Frame, Memo
         next,
         assumed: List::new(alloc),
         log: List::new(alloc),
+        tracks: Vec::new(alloc),
     })
 }
 

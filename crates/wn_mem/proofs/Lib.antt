@@ -1,4 +1,5 @@
 pub mod After
+pub mod Memories
 pub mod Sixteens
 pub mod Telling
 pub mod Tree

@@ -2,7 +2,8 @@
 use Rattle.std.specs.Prelude.{◌≡◌, ℕ, ◌+◌, ◌-◌, ◌*◌, ◌^◌, List, [], ◌∷◌, length, map, slice_index, bit_and, ◌<◌, suc, max, if◌then◌else◌, ◌==◌, ◌&&◌, Bool, Option, None, Some, IfSome}
 use Rattle.wn_net.specs.declared.parts.MemWrite.{MemWrite}
 use Rattle.fv_bits.specs.Bits.{bit, complement, joined, part}
-use Rattle.wn_net.specs.Value.{Given}
+use Rattle.wn_net.specs.Value.{Given, word_at, words_of}
+use Rattle.wn_net.specs.Changes.{mem_width}
 use Rattle.wn_net.specs.Next.{written}
 use Rattle.wn_net.specs.Net.{Netlist, IsNode, IsNodeOf, AreNodesOf, width_at, value_at}
 
@@ -17,6 +18,14 @@ AreWords net words = AreNodesOf net (words_width net words) words
 -- the numbers of the words in a cycle
 abbrev pub numbers_of : Netlist → Given → List ℕ → List ℕ
 numbers_of net g words = map (value_at net g) words
+
+-- The nodes are all words of this memory of the net, in their order, as they stand in each cycle.
+pub record AreWordsOf (net : Netlist) (words : List ℕ) (m : ℕ) : Type 0 where
+  pub there : m < length net.mems
+  pub width : words_width net words ≡ mem_width net m
+  pub count : slice_index (map (λ x. x.words) net.mems) m ≡ length words
+  pub numbers : (g : Given) (k : ℕ) → k < length words
+      → value_at net g (slice_index words k) ≡ word_at (words_of g m) k
 
 -- the numbers of the words after a write
 abbrev pub after_write : Netlist → Given → List ℕ → MemWrite → List ℕ

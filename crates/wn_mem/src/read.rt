@@ -28,6 +28,7 @@ ghost use Rattle.wn_mem.specs.Words.{AreWords, IsZero, Tell, apart, words_width,
 use crate::bits::{address_bits, bits_for, is_low, reached};
 use crate::constant::{constant_of, zero_of};
 use crate::marks::{mark_nodes, told_word};
+use crate::whole::memory_of;
 use fv_text::Memory;
 use wn_net::{Net, NodeId};
 
@@ -225,11 +226,15 @@ fn read_words(net: &mut Net, words: &[NodeId], addr: NodeId) -> Result<NodeId, M
     if let Some(number) = constant_of(net, addr) {
         return Ok(word_with(words, number, zero));
     }
+    if let Some(mem) = memory_of(net, words) {
+        let word = net.read(mem, addr)?;
+        return Ok(word);
+    }
     let found = read_tree(net, words, addr, zero)?;
     Ok(found)
 }
 
-/// The word at the address, 0 past the last word.
+/// The word at the address, 0 past the last word. Where the words are those of a memory of the net it is read there.
 pub fn read_after(net: &mut Net, words: &[NodeId], addr: NodeId) -> Result<NodeId, Memory>
     requires some { 1 ≤ length words.now }
     requires words { AreWords net.old words.now }

@@ -13,6 +13,7 @@ loop-left-preserved-then-cell-len c =
       log = inv.log;
       next = inv.next;
       assumed = inv.assumed;
+      tracks = inv.tracks;
       within = omega (arith, inv.within);
     }
 
@@ -29,6 +30,7 @@ loop-left-preserved-else-cell-len c =
       log = inv.log;
       next = inv.next;
       assumed = inv.assumed;
+      tracks = inv.tracks;
       within = omega (arith, inv.within);
     }
 

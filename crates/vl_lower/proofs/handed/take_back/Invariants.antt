@@ -9,6 +9,7 @@ invariant-loop-left l = record {
   log : l.frame.log ≡ l.fn.frame.log;
   next : l.frame.next.items ≡ l.fn.frame.next.items;
   assumed : l.frame.assumed ≡ l.fn.frame.assumed;
+  tracks : l.frame.tracks.items ≡ l.fn.frame.tracks.items;
   within : l.left ≤ length l.frame.log;
 }
 

@@ -8,7 +8,9 @@ pub returns : goal.returns
 returns c =
     let ds = c.args.layout.decls.now in
     let drivers = c.args.drivers.now in
-    let sequence = c.args.sequence.now in
-    turns_over c.args.net.now c.settle_all.new.net ds (cells_of c.in_ok-frame.frame) (cells_of c.settle_all.new.frame)
-    c.in_ok-assumed.assumed c.args.cells.now c.args.cells.now (settled ds drivers sequence) (left ds drivers sequence)
-    (seen_in ds drivers sequence) c.in_ok-frame.ensures c.in_ok-assumed.ensures.settled
+    let sequence = c.args.sequence.now in (
+      c.in_ok-tracks.tracks.items,
+      turns_over c.args.net.now c.settle_all.new.net ds (cells_of c.in_ok-frame.frame) (cells_of c.settle_all.new.frame)
+          c.in_ok-assumed.assumed c.args.cells.now c.args.cells.now c.in_ok-tracks.tracks.items (settled ds drivers sequence) (left ds drivers sequence)
+          (seen_in ds drivers sequence) c.in_ok-frame.ensures c.in_ok-assumed.ensures.settled,
+    )

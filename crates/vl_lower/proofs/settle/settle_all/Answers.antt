@@ -63,7 +63,7 @@ loop-at-preserved c =
     let given = c.in_ok-hand_over.ensures.frame in
     let one = handed ds c.loop-at.net new (cells_of c.loop-at.frame) h k h.assumed refl
     (ap (λ (fr : Frame). fr.now.items) given) (ap (λ (fr : Frame). fr.next.items) given)
-    (ap (λ (fr : Frame). fr.assumed) given) (driven ds x.what) (left_by ds x.what) (seen_by ds x.what)
+    (ap (λ (fr : Frame). fr.assumed) given) (ap (λ (fr : Frame). fr.tracks.items) given) (driven ds x.what) (left_by ds x.what) (seen_by ds x.what)
     c.in_ok-settle.ensures in
     let more =
     (grow ds drivers old c.loop-at.net new f (cells_of c.loop-at.frame) k c.loop-at.nodes h.assumed).settles_more

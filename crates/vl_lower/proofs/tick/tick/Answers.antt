@@ -16,7 +16,8 @@ returns-in_ok-execute-clause-ticks c =
     let P : DriverKind → Type 0 = λ x. Ticks ds old new f b b.assumed x in
     subst P (sym c.in-Clocked.is)
     (block_ticks ds old new f (cells_of c.execute.new.frame) c.requires.empty c.in-Clocked.stmt b c.requires.frame
-    c.requires.log c.in_ok-execute.ensures c.take_back.ensures.now c.take_back.ensures.next c.take_back.ensures.assumed)
+    c.requires.log c.in_ok-execute.ensures c.take_back.ensures.now c.take_back.ensures.next c.take_back.ensures.assumed
+    c.take_back.ensures.tracks)
 
 pub returns-in_default : goal.returns-in_default
 returns-in_default c = record {

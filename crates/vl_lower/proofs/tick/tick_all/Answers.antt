@@ -28,7 +28,7 @@ loop-at-preserved c =
     let acted = c.in_ok-tick.ensures in
     let one = handed ds c.loop-at.net new (cells_of c.loop-at.frame) h k h.assumed refl
     (ap (λ (fr : Frame). fr.now.items) given) (ap (λ (fr : Frame). fr.next.items) given)
-    (ap (λ (fr : Frame). fr.assumed) given) (λ v. v) (stored_by ds x.what) (seen_at_edge ds x.what) acted.ticks in
+    (ap (λ (fr : Frame). fr.assumed) given) (ap (λ (fr : Frame). fr.tracks.items) given) (λ v. v) (stored_by ds x.what) (seen_at_edge ds x.what) acted.ticks in
     let more =
     (grow ds drivers old c.loop-at.net new f (cells_of c.loop-at.frame) k c.loop-at.nodes h.assumed).ticks_more
     (take c.loop-at.at drivers) x inv.done one in

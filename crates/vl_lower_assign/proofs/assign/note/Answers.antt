@@ -21,6 +21,7 @@ loop-cell-preserved c =
       now = c.loop-cell.invariant.now;
       next = c.loop-cell.invariant.next;
       assumed = c.loop-cell.invariant.assumed;
+      tracks = c.loop-cell.invariant.tracks;
       log =
           c.in_ok-push.ensures.ok ∙ (λ i. c.loop-cell.invariant.log i ++ change ∷ [])
           ∙ append_assoc log (noted first m cells) (change ∷ [])

@@ -1,9 +1,11 @@
-use Rattle.std.specs.Prelude.{◌≡◌, ℕ, ◌<◌, List, length, slice_index, slice_set}
+use Rattle.std.specs.Prelude.{◌≡◌, ℕ, ◌<◌, List, length, slice_index, slice_set, None}
 use Rattle.std.proofs.Common.{ap, sym, ◌∙◌, arith, subst}
 use Rattle.std.proofs.lemmas.List.{get_or_read}
 use Rattle.vl_lower_assign.specs.Slots.{IsSlotIn, Writes}
 use Rattle.vl_lower_assign.specs.Frames.{Cells, cells_of}
 use Rattle.vl_lower_assign.specs.Logs.{IsWithin}
+use Rattle.vl_lower_assign.specs.declared.track.Track.{Track}
+use Rattle.vl_lower_assign.specs.Tracks.{AreApart, FollowWrite}
 use Rattle.vl_lower_assign.proofs.Both.{now_within, cell_held, next_held, next_slot, assigned_shared, assigned_apart}
 use Rattle.vl_lower_assign.proofs.Standing.{slot_in}
 use Rattle.vl_lower_assign.proofs.assign.write_both.Goals as goal
@@ -27,13 +29,27 @@ write_cells-requires-clause-slot c =
     (slot_in c.args.net.now c.args.decls.now c.args.frame.now.now.items c.args.slot c.requires.frame.now
     c.requires.slot)
 
+pub keep_write-requires-clause-apart : goal.keep_write-requires-clause-apart
+keep_write-requires-clause-apart c =
+    subst (λ (ts : List Track). AreApart ts) (sym c.in_ok-note_slot.ensures.tracks)
+    c.requires.frame.tracks.apart
+
+pub keep_write-requires-clause-within : goal.keep_write-requires-clause-within
+keep_write-requires-clause-within c =
+    let own = c.requires.frame in
+    let e : length c.args.frame.now.now.items ≡ c.len-cells.result =
+    omega (arith, own.now.each, own.next.each, ap length c.in_ok-note_slot.ensures.next) in
+    subst (λ n. IsWithin n c.args.slot.holder) e
+    (now_within c.args.net.now c.args.decls.now c.args.path c.args.slot c.args.value (cells_of c.args.frame.now) own
+    c.requires.slot)
+
 pub index-requires : goal.index-requires
 index-requires c =
     let f = cells_of c.args.frame.now in
     let held =
     cell_held c.args.net.now c.args.decls.now c.args.path c.args.slot c.args.value f c.requires.frame
     c.requires.slot c.in-Some.at c.in-Some.ensures.0 in
-    omega (arith, held.0, c.in_ok-write_cells.ensures.alike.each, ap length c.in_ok-note_slot.ensures.now)
+    omega (arith, held.0, c.in_ok-write_cells.ensures.writes.alike.each, ap length c.in_ok-note_slot.ensures.now)
 
 pub index_mut-requires : goal.index_mut-requires
 index_mut-requires c =
@@ -48,7 +64,7 @@ write_cells-requires-in-None-clause-slot c =
     let P : List ℕ → Type 0 = λ cells. IsSlotIn c.write_cells.new.net cells c.args.slot in
     subst P (sym c.in_ok-note_slot.ensures.next)
     (next_slot c.args.net.now c.args.decls.now c.args.path c.args.slot c.args.value (cells_of c.args.frame.now)
-    c.requires.frame c.requires.slot c.write_cells.new.net c.in_ok-write_cells.ensures.adds)
+    c.requires.frame c.requires.slot c.write_cells.new.net c.in_ok-write_cells.ensures.writes.adds)
 
 pub returns-in-Some : goal.returns-in-Some
 returns-in-Some c =
@@ -63,20 +79,23 @@ returns-in-Some c =
     cell_held old c.args.decls.now c.args.path c.args.slot c.args.value (cells_of c.args.frame.now) c.requires.frame
     c.requires.slot at c.in-Some.ensures.0 in
     let there : at < length after =
-    omega (arith, held.0, c.in_ok-write_cells.ensures.alike.each, ap length noted.now) in
+    omega (arith, held.0, c.in_ok-write_cells.ensures.writes.alike.each, ap length noted.now) in
     let node_is : node ≡ slice_index after at = get_or_read after at node there c.index.ensures 0 in
     let h : Cells = record {
       now = after;
       next = slice_set c.note_slot.new.frame.next.items at node;
       assumed = c.note_slot.new.frame.assumed;
       log = c.note_slot.new.frame.log;
+      tracks = c.keep_write.new.tracks.items;
     } in
     assigned_shared old c.args.decls.now c.args.path c.args.slot c.args.value (cells_of c.args.frame.now)
     c.requires.frame c.requires.slot new h at c.requires.path c.requires.value c.in-Some.ensures.0
     (ap (λ cells. slice_index cells at) (sym noted.next) ∙ c.in-Some.ensures.1
     ∙ ap (λ cells. slice_index cells at) noted.now)
-    (subst P noted.now c.in_ok-write_cells.ensures)
+    (subst P noted.now c.in_ok-write_cells.ensures.writes)
     (λ i. slice_set (noted.next i) at (node_is i)) noted.assumed noted.log
+    (subst (λ (ts : List Track). FollowWrite c.args.slot.holder None ts c.keep_write.new.tracks.items) noted.tracks
+    c.in_ok-keep_write.ensures)
 
 pub returns-in_ok-write_cells-in-None : goal.returns-in_ok-write_cells-in-None
 returns-in_ok-write_cells-in-None c =
@@ -93,8 +112,11 @@ returns-in_ok-write_cells-in-None c =
       next = later;
       assumed = c.note_slot.new.frame.assumed;
       log = c.note_slot.new.frame.log;
+      tracks = c.keep_write.new.tracks.items;
     } in
     assigned_apart old c.args.decls.now c.args.path c.args.slot c.args.value (cells_of c.args.frame.now)
     c.requires.frame c.requires.slot mid new h c.requires.path c.requires.value
-    (subst P noted.now c.in_ok-write_cells.ensures) (subst Q noted.next c.in_ok-write_cells-in-None.ensures)
+    (subst P noted.now c.in_ok-write_cells.ensures.writes) (subst Q noted.next c.in_ok-write_cells-in-None.ensures.writes)
     noted.assumed noted.log
+    (subst (λ (ts : List Track). FollowWrite c.args.slot.holder None ts c.keep_write.new.tracks.items) noted.tracks
+    c.in_ok-keep_write.ensures)

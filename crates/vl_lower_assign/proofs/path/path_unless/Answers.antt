@@ -1,7 +1,7 @@
-use Rattle.std.specs.Prelude.{◌==◌, ◌&&◌, not}
-use Rattle.std.proofs.Common.{ap, sym, ◌∙◌}
+use Rattle.std.specs.Prelude.{◌==◌, ◌&&◌}
+use Rattle.std.proofs.Common.{ap, ◌∙◌}
 use Rattle.wn_net.specs.Net.{value_at}
-use Rattle.wn_net.proofs.Laws.{built_node, given_on, value_on}
+use Rattle.wn_net.proofs.Laws.{built_node, given_on}
 use Rattle.wn_net.proofs.Moved.{value_within}
 use Rattle.fv_bits.specs.Bits.{complement}
 use Rattle.vl_lower_assign.proofs.Tests.{path_on, path_there, turned_one}

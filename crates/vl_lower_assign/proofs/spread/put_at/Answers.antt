@@ -1,4 +1,4 @@
-use Rattle.std.specs.Prelude.{◌≡◌, bit_and, bit_or}
+use Rattle.std.specs.Prelude.{bit_and, bit_or}
 use Rattle.std.proofs.Common.{◌∙◌}
 use Rattle.fv_bits.specs.Bits.{complement, ones}
 use Rattle.wn_net.specs.Net.{width_at, value_at}

@@ -1,8 +1,8 @@
-use Rattle.std.specs.Prelude.{◌≡◌, ◌==◌, ◌&&◌, ◌<◌, ◌^◌, ℕ, List, length, map, slice_index, if◌then◌else◌}
+use Rattle.std.specs.Prelude.{◌==◌, ◌&&◌, ◌<◌, ℕ, length, map, slice_index, if◌then◌else◌}
 use Rattle.std.proofs.Common.{ap, sym, ◌∙◌, subst, arith}
 use Rattle.std.proofs.lemmas.List.{length-map}
 use Rattle.fv_bits.specs.Bits.{masked, ones}
-use Rattle.wn_net.specs.Net.{Netlist, IsNodeOf, AreNodesOf, width_at, value_at}
+use Rattle.wn_net.specs.Net.{AreNodesOf, value_at}
 use Rattle.wn_net.proofs.Laws.{adds_on, given_on, node_on, nodes_on, there_on, value_on}
 use Rattle.wn_net.proofs.Moved.{value_within}
 use Rattle.wn_mem.specs.Words.{numbers_of, words_width}
@@ -87,3 +87,53 @@ returns-clause-numbers c = λ g p k given here less.
     ∙ part_written slot.count slot.width p (value_at net g value) (value_at net g (slice_index words k))
     (value_at mid g c.in_ok-spread.spread.mask) (value_at mid g c.in_ok-spread.spread.bits) _
     (value_within net g slot.width (slice_index words k) c.width-count.ensures.whole given node) mask bits
+
+pub returns-clause-fits : goal.returns-clause-fits
+returns-clause-fits c =
+    let net = c.args.net.now in
+    let first = c.test_of.new.net in
+    let mid = c.spread_bits.new.net in
+    let new = c.write_all.new.net in
+    let one = c.in_ok-enable.ensures in
+    let made = c.in_ok-spread.ensures in
+    let last = c.in_ok-write_all.ensures.adds in
+    let both = adds_on net first mid one.adds made.adds in
+    record {
+      enable =
+          node_on mid new 1 c.in_ok-enable.enable last (node_on first mid 1 c.in_ok-enable.enable made.adds one.there);
+      addr = there_on mid new c.args.address last (there_on net mid c.args.address both c.requires.address);
+      mask = node_on mid new c.args.slot.width c.in_ok-spread.spread.mask last made.mask_there;
+      value = node_on mid new c.args.slot.width c.in_ok-spread.spread.bits last made.bits_there;
+    }
+
+pub returns-clause-stores : goal.returns-clause-stores
+returns-clause-stores c = λ g k given less.
+    let net = c.args.net.now in
+    let first = c.test_of.new.net in
+    let mid = c.spread_bits.new.net in
+    let new = c.write_all.new.net in
+    let words = c.args.words.now in
+    let after = c.write_all.new.words in
+    let slot = c.args.slot in
+    let one = c.in_ok-enable.ensures in
+    let made = c.in_ok-spread.ensures in
+    let last = c.in_ok-write_all.ensures.adds in
+    let both = adds_on net first mid one.adds made.adds in
+    let on = nodes_on net mid slot.width words both c.requires.words in
+    let long : k < length after = omega (arith, less) in
+    let few : k < length (map (value_at mid g) words) = omega (arith, less, length-map words (value_at mid g)) in
+    let node = node_among net slot.width words k less c.requires.words in
+    let e_is =
+    sym (value_on mid new g c.in_ok-enable.enable last (node_on first mid 1 c.in_ok-enable.enable made.adds one.there).0) in
+    let a_is = sym (value_on mid new g c.args.address last (there_on net mid c.args.address both c.requires.address)) in
+    let m_is = sym (value_on mid new g c.in_ok-spread.spread.mask last made.mask_there.0) in
+    let b_is = sym (value_on mid new g c.in_ok-spread.spread.bits last made.bits_there.0) in
+    let w_is = width_is mid slot.width words c.requires.some on in
+    let x_is = index_map (value_at mid g) words k less
+    ∙ value_on net mid g (slice_index words k) both node.0 in
+    sym (index_map (value_at new g) after k long)
+    ∙ ap (λ xs. slice_index xs k) (c.in_ok-write_all.ensures.value g (given_on net mid g both given))
+    ∙ word_written (words_width mid words) (numbers_of mid g words) (value_at mid g c.in_ok-enable.enable)
+    (value_at mid g c.args.address) (value_at mid g c.in_ok-spread.spread.mask)
+    (value_at mid g c.in_ok-spread.spread.bits) k few
+    ∙ (λ i. if (e_is i == 1) && (k == a_is i) then masked (w_is i) (m_is i) (x_is i) (b_is i) else x_is i)

@@ -1,6 +1,5 @@
 use Rattle.std.specs.Prelude.{if◌then◌else◌}
 use Rattle.std.proofs.Common.{sym, ◌∙◌}
-use Rattle.wn_net.specs.Net.{value_at}
 use Rattle.wn_net.proofs.Laws.{given_on, there_on, value_on}
 use Rattle.vl_lower_assign.proofs.Tests.{path_on, path_there}
 use Rattle.vl_lower_assign.proofs.write.written_cell.Goals as goal

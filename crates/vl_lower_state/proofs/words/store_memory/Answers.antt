@@ -1,5 +1,5 @@
 use Rattle.std.specs.Prelude.{◌≡◌, ℕ, ◌+◌, ◌<◌, List, [], Some, get_or, slice_get, take, drop}
-use Rattle.std.proofs.Common.{ap, sym, ◌∙◌, arith, subst}
+use Rattle.std.proofs.Common.{ap, sym, ◌∙◌, arith, subst, inl}
 use Rattle.std.proofs.lemmas.Option.{get_or_from_slice_get, slice_get_within}
 use Rattle.fv_bits.specs.Bits.{ones}
 use Rattle.wn_net.specs.declared.parts.Mem.{Mem}
@@ -113,7 +113,7 @@ bounds-cells-first c =
     omega (arith, at.may.there, c.loop-word-test.true, ap (λ (m : Mem). m.words) is)
 
 pub returns-clause-stored : goal.returns-clause-stored
-returns-clause-stored c =
+returns-clause-stored c = λ tracks.
     let old = c.args.net.now in
     let at = c.requires.at in
     let inv = c.loop-word.invariant in
@@ -128,5 +128,5 @@ returns-clause-stored c =
       memory = at.memory;
       there = at.there;
       others = inv.others;
-      stored = subst (Put at.memory.width) all (subst (λ n. Put n c.loop-word.word) wide inv.stored);
+      stored = inl (subst (Put at.memory.width) all (subst (λ n. Put n c.loop-word.word) wide inv.stored));
     }

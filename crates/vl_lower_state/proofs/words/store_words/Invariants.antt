@@ -8,6 +8,6 @@ invariant-loop-at l = record {
   keeps : Keeps l.fn.net l.net;
   adds : AddsWrites l.fn.net l.net;
   always : IsConstant l.net 1 1 l.always;
-  stored : AreStoredTo l.net l.cells l.at l.net.mems l.firsts;
+  stored : AreStoredTo l.net l.cells l.tracks l.at l.net.mems l.firsts;
   left : AreLeft l.fn.net.mems l.net.mems l.at;
 }

@@ -23,4 +23,4 @@ returns c = λ attrs p.
     let test = subst (λ cs. Evaluates ds c.args.net.now c.condition.new.net cs 1
     (λ v. bit (is_true (operand_in (flat_scopes ds) v e))) c.in_ok-test.test) slice c.in_ok-test.ensures in
     assumed ds _ _ _ (cells_of c.args.frame.now) _ c.args.path c.in_ok-test.test c.in_ok-met.met attrs p e
-    c.requires.frame c.requires.path test met.adds met.there met.value refl refl refl c.in_ok-push.ensures.ok
+    c.requires.frame c.requires.path test met.adds met.there met.value refl refl refl refl c.in_ok-push.ensures.ok

@@ -110,6 +110,48 @@ execute-returns-in_ok-execute-in-If-default-default-Some-2 t c =
     (subst (λ z. Executes ds half new h g (Some paths.other) z) other
     c.in_ok-execute-in-If-default-default-Some-2.ensures))
 
+pub execute-execute-requires : goal.execute-execute-requires
+execute-execute-requires t c =
+    let ds = c.args.layout.decls.now in
+    let a = c.stmt.inside.attributes in
+    let p = c.stmt.inside.pos in
+    let e = c.in-If-default-default-None.condition in
+    let x = c.in-If-default-default-None.first.value in
+    let cells : c.as_slice-in-If-default-default-None.result.now ≡ c.args.frame.now.now.items = search rules in
+    let inner : c.deref.result.now ≡ x = search rules in
+    let kind : c.stmt.inside.kind ≡ k.If e c.in-If-default-default-None.first None = search rules in
+    let same : if_only a p e x ≡ c.args.stmt.now = ap (shown a p) (sym kind) ∙ c.stmt.view_is in
+    let block = subst (IsBlock ds) (sym same) c.requires.block in
+    let made = c.in_ok-inner-in-If-default-default-None.ensures in
+    let frame = frame_on c.args.net.now c.path_if.new.net ds (cells_of c.args.frame.now) made.adds c.requires.frame in
+    let deep = ap depth same in
+    let part = ap depth inner in
+    (omega (arith, deep, part), (c.requires.layout, (frame, (made.node, subst (IsBlock ds) (sym inner) block.1))))
+
+pub execute-execute-requires-in-If-default-default-Some : goal.execute-execute-requires-in-If-default-default-Some
+execute-execute-requires-in-If-default-default-Some t c =
+    let ds = c.args.layout.decls.now in
+    let a = c.stmt.inside.attributes in
+    let p = c.stmt.inside.pos in
+    let e = c.in-If-default-default-Some.condition in
+    let x = c.in-If-default-default-Some.first.value in
+    let y = c.in-If-default-default-Some.second.value in
+    let inner : c.deref-in-If-default-default-Some.result.now ≡ x = search rules in
+    let tail : c.in-If-default-default-Some.field-2 ≡ Some c.in-If-default-default-Some.second = search rules in
+    let kind : c.stmt.inside.kind
+    ≡ k.If e c.in-If-default-default-Some.first (Some c.in-If-default-default-Some.second) =
+    c.in-If-default-default-Some.is ∙ ap (k.If e c.in-If-default-default-Some.first) tail in
+    let same : if_else a p e x y ≡ c.args.stmt.now = ap (shown a p) (sym kind) ∙ c.stmt.view_is in
+    let block = subst (IsBlock ds) (sym same) c.requires.block in
+    let made = c.in_ok-paths-in-If-default-default-Some.ensures in
+    let frame = frame_on c.args.net.now c.two_paths.new.net ds (cells_of c.args.frame.now) made.taken.adds
+    c.requires.frame in
+    let deep = ap depth same in
+    let part = ap depth inner in (
+      omega (arith, deep, part),
+      (c.requires.layout, (frame, (made.taken.node, subst (IsBlock ds) (sym inner) block.1.0))),
+    )
+
 pub execute-returns-in_ok-otherwise-in-Case : goal.execute-returns-in_ok-otherwise-in-Case
 execute-returns-in_ok-otherwise-in-Case t c =
     let ds = c.args.layout.decls.now in
