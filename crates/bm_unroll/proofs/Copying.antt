@@ -13,7 +13,11 @@ use Rattle.wn_net.specs.Changes.{AddsNodes, Builds}
 use Rattle.wn_net.proofs.Laws.{adds_on, adds_none, there_on, nodes_on, given_on}
 use Rattle.wn_mem.specs.Words.{words_width, numbers_of}
 use Rattle.bm_unroll.specs.declared.state.StateNodes.{StateNodes}
-use Rattle.bm_unroll.specs.Cycle.{AreMemories, AreStateNodes, Copies, IsCopyable, IsMemory, StandFor, given_by}
+use Rattle.bm_unroll.proofs.Chains.{chain_on, chain_width_on, chain_words_on}
+use Rattle.bm_unroll.specs.declared.state.MemoryNodes.{MemoryNodes}
+use Rattle.bm_unroll.specs.declared.state.MemoryNodes.TheVariants as v
+use Rattle.bm_unroll.specs.Memories.{AreMemories, HaveWords, IsMemory, memory_numbers, memory_width}
+use Rattle.bm_unroll.specs.Cycle.{AreStateNodes, Copies, IsCopyable, StandFor, given_by}
 use Rattle.bm_unroll.specs.Cycle.{shape_by, state_by, widths_at}
 
 -- ---- nodes in a list
@@ -64,40 +68,52 @@ pub are_nodes : (net : Netlist) (w : ℕ) (words : List ℕ) → AreNodesOf net 
 are_nodes net w [] h = tt
 are_nodes net w (x ∷ xs) h = (h.0.0, are_nodes net w xs h.1)
 
-pub words_kept : (old new : Netlist) (words : List ℕ) → AddsNodes old new → IsMemory old words
+pub words_kept : (old new : Netlist) (words : List ℕ) → AddsNodes old new → HaveWords old words
     → words_width new words ≡ words_width old words
 words_kept old new [] h own = absurd (omega (arith, own.0))
 words_kept old new (x ∷ xs) h own = h.keeps.widths x own.1.0.0
 
-memory_there : (old new : Netlist) (words : List ℕ) → AddsNodes old new → IsMemory old words
-    → IsMemory new words
-memory_there old new words h own =
+words_there : (old new : Netlist) (words : List ℕ) → AddsNodes old new → HaveWords old words → HaveWords new words
+words_there old new words h own =
     let P : ℕ → Type 0 = λ w. AreNodesOf new w words in (
       own.0,
       subst P (sym (words_kept old new words h own)) (nodes_on old new (words_width old words) words h own.1),
     )
 
-pub memories_there : (old new : Netlist) (mems : List (List ℕ)) → AddsNodes old new → AreMemories old mems
+-- a memory in either form
+memory_there : (old new : Netlist) (m : MemoryNodes) → AddsNodes old new → IsMemory old m → IsMemory new m
+memory_there old new (v.Words ids) h own = words_there old new ids h own
+memory_there old new (v.Writes chain) h own = chain_on old new chain h own
+
+pub memory_kept : (old new : Netlist) (m : MemoryNodes) → AddsNodes old new → IsMemory old m
+    → memory_width new m ≡ memory_width old m
+memory_kept old new (v.Words ids) h own = words_kept old new ids h own
+memory_kept old new (v.Writes chain) h own = chain_width_on old new chain h own
+
+pub memory_same : (old new : Netlist) (g : Given) (m : MemoryNodes) → AddsNodes old new → IsMemory old m
+    → memory_numbers new g m ≡ memory_numbers old g m
+memory_same old new g (v.Words ids) h own =
+    numbers_kept old new g ids h (are_nodes old (words_width old ids) ids own.1)
+memory_same old new g (v.Writes chain) h own = chain_words_on old new g chain h own
+
+pub memories_there : (old new : Netlist) (mems : List MemoryNodes) → AddsNodes old new → AreMemories old mems
     → AreMemories new mems
 memories_there old new [] h own = tt
 memories_there old new (m ∷ ms) h own = (memory_there old new m h own.0, memories_there old new ms h own.1)
 
-pub mem_widths_kept : (old new : Netlist) (mems : List (List ℕ)) → AddsNodes old new → AreMemories old mems
-    → map (words_width new) mems ≡ map (words_width old) mems
+pub mem_widths_kept : (old new : Netlist) (mems : List MemoryNodes) → AddsNodes old new → AreMemories old mems
+    → map (memory_width new) mems ≡ map (memory_width old) mems
 mem_widths_kept old new [] h own = refl
 mem_widths_kept old new (m ∷ ms) h own =
-    ap (λ w. w ∷ map (words_width new) ms) (words_kept old new m h own.0)
-    ∙ ap (λ ws. words_width old m ∷ ws) (mem_widths_kept old new ms h own.1)
+    λ i. memory_kept old new m h own.0 i ∷ mem_widths_kept old new ms h own.1 i
 
-pub mem_numbers_kept : (old new : Netlist) (g : Given) (mems : List (List ℕ)) → AddsNodes old new
-    → AreMemories old mems → map (numbers_of new g) mems ≡ map (numbers_of old g) mems
+pub mem_numbers_kept : (old new : Netlist) (g : Given) (mems : List MemoryNodes) → AddsNodes old new
+    → AreMemories old mems → map (memory_numbers new g) mems ≡ map (memory_numbers old g) mems
 mem_numbers_kept old new g [] h own = refl
 mem_numbers_kept old new g (m ∷ ms) h own =
-    ap (λ vs. vs ∷ map (numbers_of new g) ms)
-    (numbers_kept old new g m h (are_nodes old (words_width old m) m own.0.1))
-    ∙ ap (λ vs. numbers_of old g m ∷ vs) (mem_numbers_kept old new g ms h own.1)
+    λ i. memory_same old new g m h own.0 i ∷ mem_numbers_kept old new g ms h own.1 i
 
-pub memory_in : (net : Netlist) (mems : List (List ℕ)) (i : ℕ) (d : List ℕ) → AreMemories net mems
+pub memory_in : (net : Netlist) (mems : List MemoryNodes) (i : ℕ) (d : MemoryNodes) → AreMemories net mems
     → i < length mems → IsMemory net (slice_index_or mems i d)
 memory_in net [] i d h below = absurd (omega arith)
 memory_in net (m ∷ ms) zero d h below = h.0

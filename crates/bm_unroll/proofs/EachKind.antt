@@ -14,8 +14,8 @@ use Rattle.wn_net.specs.Value.{Given, word_at, words_at}
 use Rattle.wn_net.specs.Given.{IsGiven}
 use Rattle.wn_net.specs.Net.{Netlist, IsNodeOf, width_at, value_at}
 use Rattle.wn_net.specs.Changes.{Builds}
-use Rattle.wn_mem.specs.Words.{words_width, numbers_of}
 use Rattle.bm_unroll.specs.declared.state.StateNodes.{StateNodes}
+use Rattle.bm_unroll.specs.Memories.{memory_numbers, memory_width}
 use Rattle.bm_unroll.specs.Cycle.{Copies, IsCopyable, shape_by, widths_at}
 use Rattle.bm_unroll.proofs.Copying.{copies_one, copies_two, node_in, number_here, width_here}
 
@@ -335,9 +335,9 @@ copies_reg net inputs state table regs x i d is own same =
 pub copies_read : (old new : Netlist) (inputs : List ℕ) (state : StateNodes) (table : List ℕ) (x : Node) (m a d id
     : ℕ)
     → x ≡ n.Read m a → IsCopyable old inputs state table x
-    → IsNodeOf new (slice_index (map (words_width old) state.mems) m) id
+    → IsNodeOf new (slice_index (map (memory_width old) state.mems) m) id
     → ((g : Given) → IsGiven old g → value_at new g id
-    ≡ word_at (words_at (map (numbers_of old g) state.mems) m) (value_at old g (slice_index_or table a d)))
+    ≡ word_at (words_at (map (memory_numbers old g) state.mems) m) (value_at old g (slice_index_or table a d)))
     → Copies old new inputs state table x id
 copies_read old new inputs state table x m a d id is own there value =
     let P : Node → Type 0 = λ y. IsFitting (shape_by old inputs state) (widths_at old table) y in
@@ -348,7 +348,8 @@ copies_read old new inputs state table x m a d id is own there value =
       bits = there.1;
       number = λ g given.
           value g given
-          ∙ ap (word_at (words_at (map (numbers_of old g) state.mems) m)) (sym (number_here old g table a d fits.1));
+          ∙ ap (word_at (words_at (map (memory_numbers old g) state.mems) m))
+          (sym (number_here old g table a d fits.1));
     })
 
 pub copies_mux : (old new : Netlist) (inputs : List ℕ) (state : StateNodes) (table : List ℕ) (x : Node) (c a b d e

@@ -10,7 +10,7 @@ use Rattle.wn_net.specs.declared.parts.Init.{Init}
 use Rattle.wn_net.specs.declared.parts.Init.TheVariants as init
 use Rattle.wn_net.specs.Net.{Netlist, IsMemOf, IsNet, shape_of}
 use Rattle.wn_run.specs.Runs.{start_number, regs_from, words_from, mems_from}
-use Rattle.bm_unroll.specs.declared.state.StateNodes.{StateNodes}
+use Rattle.bm_unroll.specs.declared.state.StartNodes.{StartNodes}
 use Rattle.bm_unroll.specs.declared.draft.Draft.{Draft}
 use Rattle.bm_unroll.specs.declared.frames.Source.TheVariants as s
 use Rattle.bm_unroll.specs.Frames.{IsChoice, source_width}
@@ -283,34 +283,37 @@ storing_draft net old now n made whole h = λ cycle d.
 
 -- ---- the state
 
-pub start_made : (net : Netlist) (old new : Draft) (count : ℕ) (state : StateNodes) (regs : List ℕ)
+pub start_made : (net : Netlist) (old new : Draft) (count : ℕ) (state : StartNodes) (regs : List ℕ)
     (mems : List (List ℕ)) → Extends old new count
     → MeansAll old (shape_of net).regs (λ ch. regs_from ch.regs 0 net.regs) regs
     → MeansMems new (shape_of net).mems (λ ch. mems_from ch.words 0 net.mems) mems
     → state.regs ≡ regs → state.mems ≡ mems → HasStart net new state
 start_made net old new count state regs mems h r m regs_are mems_are =
     let k = meant_on old new count (shape_of net).regs (λ ch. regs_from ch.regs 0 net.regs) regs h r in
-    let P : StateNodes → Type 0 = λ s. HasStart net new s in
+    let P : StartNodes → Type 0 = λ s. HasStart net new s in
     let e : record { regs = regs; mems = mems } ≡ state =
     λ i. record { regs = sym regs_are i; mems = sym mems_are i } in
     let made : HasStart net new (record { regs = regs; mems = mems }) = record {
-      start = record { there = record { regs = k.there; mems = m.there }; regs = k.wide; mems = m.wide };
+      regs_there = k.there;
+      mems_there = m.there;
+      regs = k.wide;
+      mems = m.wide;
       values = λ ch g a. λ i. record { regs = k.values ch g a i; mems = m.values ch g a i };
     } in
     subst P e made
 
 -- in a draft with more sources
-pub start_on : (net : Netlist) (old new : Draft) (count : ℕ) (state : StateNodes) → Extends old new count
+pub start_on : (net : Netlist) (old new : Draft) (count : ℕ) (state : StartNodes) → Extends old new count
     → HasStart net old state → HasStart net new state
 start_on net old new count state h own =
     let regs : MeansAll old (shape_of net).regs (λ ch. regs_from ch.regs 0 net.regs) state.regs = record {
-      there = own.start.there.regs;
-      wide = own.start.regs;
+      there = own.regs_there;
+      wide = own.regs;
       values = λ ch g a. ap (λ (st : State). st.regs) (own.values ch g a);
     } in
     let mems : MeansMems old (shape_of net).mems (λ ch. mems_from ch.words 0 net.mems) state.mems = record {
-      there = own.start.there.mems;
-      wide = own.start.mems;
+      there = own.mems_there;
+      wide = own.mems;
       values = λ ch g a. ap (λ (st : State). st.mems) (own.values ch g a);
     } in
     start_made net old new count state state.regs state.mems h regs

@@ -1,3 +1,4 @@
+pub mod Chains
 pub mod Copying
 pub mod EachKind
 pub mod Moving
@@ -12,3 +13,5 @@ pub mod Room
 pub mod Rows
 pub mod Runs
 pub mod Shrinking
+pub mod Chaining
+pub mod Beginning

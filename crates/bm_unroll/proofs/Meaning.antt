@@ -9,11 +9,12 @@ use Rattle.wn_net.specs.Changes.{Grows}
 use Rattle.wn_net.proofs.Laws.{grown_there, grown_nodes, grown_value}
 use Rattle.wn_run.specs.Runs.{Choices}
 use Rattle.wn_mem.specs.Words.{words_width, numbers_of}
-use Rattle.bm_unroll.specs.Cycle.{AreMemories, IsMemory, widths_at}
+use Rattle.bm_unroll.specs.Memories.{HaveWords}
+use Rattle.bm_unroll.specs.Cycle.{widths_at}
 use Rattle.bm_unroll.proofs.Copying.{are_nodes, node_in, nodes_push, width_here}
 use Rattle.bm_unroll.proofs.Writing.{are_words, first_width}
 use Rattle.bm_unroll.specs.declared.draft.Draft.{Draft}
-use Rattle.bm_unroll.specs.Draft.{Extends, Means, MeansAll, MeansMems}
+use Rattle.bm_unroll.specs.Draft.{AreWordLists, Extends, Means, MeansAll, MeansMems}
 use Rattle.bm_unroll.proofs.Drafting.{agree_begun}
 
 -- ---- a net that grows
@@ -33,29 +34,29 @@ grown_numbers old new g [] h own = refl
 grown_numbers old new g (x ∷ xs) h own =
     λ i. grown_value old new g x h own.0 i ∷ grown_numbers old new g xs h own.1 i
 
-grown_words : (old new : Netlist) (words : List ℕ) → Grows old new → IsMemory old words
+grown_words : (old new : Netlist) (words : List ℕ) → Grows old new → HaveWords old words
     → words_width new words ≡ words_width old words
 grown_words old new [] h own = absurd (omega (arith, own.0))
 grown_words old new (x ∷ xs) h own = h.widths x own.1.0.0
 
-grown_memory : (old new : Netlist) (words : List ℕ) → Grows old new → IsMemory old words → IsMemory new words
+grown_memory : (old new : Netlist) (words : List ℕ) → Grows old new → HaveWords old words → HaveWords new words
 grown_memory old new words h own =
     let P : ℕ → Type 0 = λ w. AreNodesOf new w words in (
       own.0,
       subst P (sym (grown_words old new words h own)) (grown_nodes old new (words_width old words) words h own.1),
     )
 
-grown_mems : (old new : Netlist) (mems : List (List ℕ)) → Grows old new → AreMemories old mems → AreMemories new mems
+grown_mems : (old new : Netlist) (mems : List (List ℕ)) → Grows old new → AreWordLists old mems → AreWordLists new mems
 grown_mems old new [] h own = tt
 grown_mems old new (m ∷ ms) h own = (grown_memory old new m h own.0, grown_mems old new ms h own.1)
 
-grown_mem_widths : (old new : Netlist) (mems : List (List ℕ)) → Grows old new → AreMemories old mems
+grown_mem_widths : (old new : Netlist) (mems : List (List ℕ)) → Grows old new → AreWordLists old mems
     → map (words_width new) mems ≡ map (words_width old) mems
 grown_mem_widths old new [] h own = refl
 grown_mem_widths old new (m ∷ ms) h own =
     λ i. grown_words old new m h own.0 i ∷ grown_mem_widths old new ms h own.1 i
 
-grown_mem_numbers : (old new : Netlist) (g : Given) (mems : List (List ℕ)) → Grows old new → AreMemories old mems
+grown_mem_numbers : (old new : Netlist) (g : Given) (mems : List (List ℕ)) → Grows old new → AreWordLists old mems
     → map (numbers_of new g) mems ≡ map (numbers_of old g) mems
 grown_mem_numbers old new g [] h own = refl
 grown_mem_numbers old new g (m ∷ ms) h own =
@@ -143,8 +144,8 @@ pub mems_as : (d : Draft) (widths others : List ℕ) (numbers same : Choices →
 mems_as d widths others numbers same mems e is m =
     record { there = m.there; wide = m.wide ∙ e; values = λ ch g a. m.values ch g a ∙ is ch }
 
-mems_push : (net : Netlist) (mems : List (List ℕ)) (words : List ℕ) → AreMemories net mems → IsMemory net words
-    → AreMemories net (mems ++ words ∷ [])
+mems_push : (net : Netlist) (mems : List (List ℕ)) (words : List ℕ) → AreWordLists net mems → HaveWords net words
+    → AreWordLists net (mems ++ words ∷ [])
 mems_push net [] words h k = (k, tt)
 mems_push net (m ∷ ms) words h k = (h.0, mems_push net ms words h.1 k)
 
@@ -174,7 +175,7 @@ pub mems_next : (old new : Draft) (count : ℕ) (widths more : List ℕ) (number
     → longer ≡ mems ++ words ∷ [] → MeansMems new more all longer
 mems_next old new count widths more numbers all mems longer {X} xs width number words h m some one wide is pushed =
     let k = mems_on old new count widths numbers mems h m in
-    let P : List (List ℕ) → Type 0 = λ ms. AreMemories new.net ms in
+    let P : List (List ℕ) → Type 0 = λ ms. AreWordLists new.net ms in
     let long : 1 ≤ length words = omega (
       arith,
       meant_long new (map (λ (x : X). width) xs) number words one,

@@ -11,17 +11,18 @@ use Rattle.wn_net.specs.declared.parts.MemWrite.{MemWrite}
 use Rattle.wn_net.specs.Value.{Given}
 use Rattle.wn_net.specs.Given.{IsGiven}
 use Rattle.wn_net.specs.Next.{next_mems, write_each}
-use Rattle.wn_net.specs.Net.{Netlist, AreNodes, AreNodesOf, IsNet, IsRegOf, IsMemOf, IsWriteOf, width_at}
+use Rattle.wn_net.specs.Net.{Netlist, AreNodes, IsNet, IsRegOf, IsMemOf, IsWriteOf, width_at}
 use Rattle.wn_net.specs.Net.{value_at, widths_of}
 use Rattle.wn_net.specs.Changes.{AddsNodes}
 use Rattle.wn_net.proofs.Laws.{adds_on, adds_none, given_on}
 use Rattle.wn_net.proofs.Stays.{length-widths_of}
-use Rattle.wn_mem.specs.Words.{words_width, numbers_of}
-use Rattle.bm_unroll.specs.Cycle.{AreMemories, IsMemory, widths_at}
+use Rattle.wn_mem.specs.Words.{numbers_of}
+use Rattle.bm_unroll.specs.declared.state.MemoryNodes.{MemoryNodes}
+use Rattle.bm_unroll.specs.Memories.{AreMemories, IsMemory, memory_numbers, memory_width}
+use Rattle.bm_unroll.specs.Cycle.{widths_at}
 use Rattle.bm_unroll.specs.Moved.{IsTableWrite}
 use Rattle.bm_unroll.proofs.Copying.{node_in, nodes_there, numbers_kept, memory_in, memories_there, mem_widths_kept}
-use Rattle.bm_unroll.proofs.Copying.{mem_numbers_kept, widths_kept, are_nodes, words_kept}
-use Rattle.bm_unroll.proofs.Writing.{first_width, are_words}
+use Rattle.bm_unroll.proofs.Copying.{mem_numbers_kept, widths_kept, memory_kept, memory_same}
 
 pub table_long : (net new : Netlist) (table : List ℕ) → widths_at new table ≡ widths_of net
     → length table ≡ length net.nodes
@@ -86,17 +87,17 @@ mem_in net (m ∷ ms) zero d h below = h.0
 mem_in net (m ∷ ms) (suc i) d h below = mem_in net ms i d h.1 (omega arith)
 
 -- the words of a memory have its width
-pub width_of_words : (net : Netlist) (ms : List Mem) (mems : List (List ℕ)) (i : ℕ) (d : Mem) (e : List ℕ)
-    → map (words_width net) mems ≡ map (λ m. m.width) ms → i < length ms
-    → words_width net (slice_index_or mems i e) ≡ (slice_index_or ms i d).width
+pub width_of_words : (net : Netlist) (ms : List Mem) (mems : List MemoryNodes) (i : ℕ) (d : Mem) (e : MemoryNodes)
+    → map (memory_width net) mems ≡ map (λ m. m.width) ms → i < length ms
+    → memory_width net (slice_index_or mems i e) ≡ (slice_index_or ms i d).width
 width_of_words net [] mems i d e same below = absurd (omega arith)
 width_of_words net (m ∷ ms) [] i d e same below = cc
 width_of_words net (m ∷ ms) (x ∷ xs) zero d e same below = ap (λ ws. slice_index ws 0) same
 width_of_words net (m ∷ ms) (x ∷ xs) (suc i) d e same below =
     width_of_words net ms xs i d e (tail same) (omega arith)
   where
-    tail : (words_width net x ∷ map (words_width net) xs) ≡ (m.width ∷ map (λ m. m.width) ms)
-        → map (words_width net) xs ≡ map (λ m. m.width) ms
+    tail : (memory_width net x ∷ map (memory_width net) xs) ≡ (m.width ∷ map (λ m. m.width) ms)
+        → map (memory_width net) xs ≡ map (λ m. m.width) ms
     tail p = cc
 
 -- the memory at the place, of the first memories and one more
@@ -121,20 +122,20 @@ next_all vs (m ∷ ms) (x ∷ xs) (suc i) h =
     ap (λ t. write_each vs m.width x m.writes ∷ t) (next_all vs ms xs i (omega arith))
 
 -- What the walk over the memories keeps.
-pub record Moving (old now net : Netlist) (table : List ℕ) (mems : List (List ℕ)) (i : ℕ) (made : List (List
-    ℕ)) : Type 0 where
+pub record Moving (old now net : Netlist) (table : List ℕ) (mems : List MemoryNodes) (i : ℕ)
+    (made : List MemoryNodes) : Type 0 where
   pub adds : AddsNodes old now
   pub there : AreMemories now made
-  pub shape : map (words_width now) made ≡ take i (map (λ m. m.width) net.mems)
+  pub shape : map (memory_width now) made ≡ take i (map (λ m. m.width) net.mems)
   pub numbers : (g : Given) → IsGiven old g
-      → map (numbers_of now g) made
-      ≡ take i (next_mems (numbers_of old g table) net.mems (map (numbers_of old g) mems))
+      → map (memory_numbers now g) made
+      ≡ take i (next_mems (numbers_of old g table) net.mems (map (memory_numbers old g) mems))
 
-pub moving_none : (old net : Netlist) (table : List ℕ) (mems : List (List ℕ)) → Moving old old net table mems 0 []
+pub moving_none : (old net : Netlist) (table : List ℕ) (mems : List MemoryNodes) → Moving old old net table mems 0 []
 moving_none old net table mems =
     record { adds = adds_none old; there = tt; shape = refl; numbers = λ g given. refl }
 
-memories_push : (net : Netlist) (mems : List (List ℕ)) (words : List ℕ) → AreMemories net mems
+memories_push : (net : Netlist) (mems : List MemoryNodes) (words : MemoryNodes) → AreMemories net mems
     → IsMemory net words
     → AreMemories net (mems ++ words ∷ [])
 memories_push net [] words h k = (k, tt)
@@ -147,73 +148,67 @@ take_next [] i d below = absurd (omega arith)
 take_next (m ∷ ms) zero d below = refl
 take_next (m ∷ ms) (suc i) d below = ap (λ ws. m.width ∷ ws) (take_next ms i d (omega arith))
 
-pub moving_next : (old now new net : Netlist) (table : List ℕ) (mems : List (List ℕ)) (i : ℕ) (made longer :
-    List (List ℕ))
-    (d : Mem) (e next : List ℕ)
-    → map (words_width old) mems ≡ map (λ m. m.width) net.mems → i < length net.mems
+pub moving_next : (old now new net : Netlist) (table : List ℕ) (mems : List MemoryNodes) (i : ℕ)
+    (made longer : List MemoryNodes) (d : Mem) (e next : MemoryNodes)
+    → map (memory_width old) mems ≡ map (λ m. m.width) net.mems → i < length net.mems
     → length mems ≡ length net.mems
     → IsNet net → AreNodes old table → AreMemories old mems → Moving old now net table mems i made
     → AddsNodes now new
-    → length next ≡ length (slice_index_or mems i e)
-    → AreNodesOf new (words_width now (slice_index_or mems i e)) next
-    → ((g : Given) → IsGiven now g → numbers_of new g next
-    ≡ write_each (numbers_of now g table) (words_width now (slice_index_or mems i e))
-    (numbers_of now g (slice_index_or mems i e)) (slice_index_or net.mems i d).writes)
+    → IsMemory new next → memory_width new next ≡ memory_width now (slice_index_or mems i e)
+    → ((g : Given) → IsGiven now g → memory_numbers new g next
+    ≡ write_each (numbers_of now g table) (memory_width now (slice_index_or mems i e))
+    (memory_numbers now g (slice_index_or mems i e)) (slice_index_or net.mems i d).writes)
     → longer ≡ made ++ next ∷ []
     → Moving old new net table mems (i + 1) longer
-moving_next old now new net table mems i made longer d e next shape below long whole own all h more each there is
+moving_next old now new net table mems i made longer d e next shape below long whole own all h more there width_is is
     pushed =
     let words = slice_index_or mems i e in
     let mem = slice_index_or net.mems i d in
     let memory : IsMemory old words = memory_in old mems i e all (omega (arith, long, below)) in
-    let wide : words_width now words ≡ mem.width =
-    words_kept old now words h.adds memory ∙ width_of_words old net.mems mems i d e shape below in
-    let P : ℕ → Type 0 = λ w. AreNodesOf new w next in
-    let there_is : AreNodesOf new mem.width next = subst P wide there in
-    let some : 1 ≤ length next = omega (arith, each, memory.0) in
-    let Q : List (List ℕ) → Type 0 = λ ms. Moving old new net table mems (i + 1) ms in
+    let wide : memory_width now words ≡ mem.width =
+    memory_kept old now words h.adds memory ∙ width_of_words old net.mems mems i d e shape below in
+    let Q : List MemoryNodes → Type 0 = λ ms. Moving old new net table mems (i + 1) ms in
     let N : ℕ → Type 0 = λ n. Moving old new net table mems n (made ++ next ∷ []) in
     let one_more : suc i ≡ i + 1 = omega arith in
     let made_is : Moving old new net table mems (suc i) (made ++ next ∷ []) = record {
       adds = adds_on old now new h.adds more;
       there =
-          memories_push new made next (memories_there now new made more h.there)
-          (some, are_words new mem.width next some there_is);
+          memories_push new made next (memories_there now new made more h.there) there;
       shape =
-          map_push (words_width new) made next
+          map_push (memory_width new) made next
           ∙ (λ k. (mem_widths_kept now new made more h.there ∙ h.shape) k
-          ++ (first_width new mem.width next some there_is) k ∷ [])
+          ++ (width_is ∙ wide) k ∷ [])
           ∙ sym (take_next net.mems i d below);
       numbers = λ g given.
           let vs = numbers_of old g table in
-          let nums = map (numbers_of old g) mems in
-          let here : slice_index_or nums i (numbers_of old g e) ≡ numbers_of old g words =
-          get_or-map (numbers_of old g) mems i e (numbers_of old g e) (omega (arith, long, below)) in
-          map_push (numbers_of new g) made next
+          let nums = map (memory_numbers old g) mems in
+          let here : slice_index_or nums i (memory_numbers old g e) ≡ memory_numbers old g words =
+          get_or-map (memory_numbers old g) mems i e (memory_numbers old g e) (omega (arith, long, below)) in
+          map_push (memory_numbers new g) made next
           ∙ (λ k. (mem_numbers_kept now new g made more h.there ∙ h.numbers g given) k
           ++ (is g (given_on old now g h.adds given)
           ∙ (λ j. write_each (numbers_kept old now g table h.adds own j) (wide j)
-          (numbers_kept old now g words h.adds (are_nodes old (words_width old words) words memory.1) j) mem.writes)
+          (memory_same old now g words h.adds memory j) mem.writes)
           ∙ ap (λ us. write_each vs mem.width us mem.writes) (sym here)) k ∷ [])
-          ∙ sym (next_at vs net.mems nums i d (numbers_of old g e)
-          (length-map mems (numbers_of old g) ∙ long) below);
+          ∙ sym (next_at vs net.mems nums i d (memory_numbers old g e)
+          (length-map mems (memory_numbers old g) ∙ long) below);
     } in
     subst Q (sym pushed) (subst N one_more made_is)
 
 -- a memory's writes, in a net with more nodes
-pub writes_here : (old now net : Netlist) (table : List ℕ) (mems : List (List ℕ)) (i : ℕ) (d : Mem) (e : List ℕ)
+pub writes_here : (old now net : Netlist) (table : List ℕ) (mems : List MemoryNodes) (i : ℕ) (d : Mem) (e : MemoryNodes)
     → widths_at old table ≡ widths_of net → AreNodes old table → AreMemories old mems → AddsNodes old now
     → IsNet net
-    → map (words_width old) mems ≡ map (λ m. m.width) net.mems → i < length net.mems
+    → map (memory_width old) mems ≡ map (λ m. m.width) net.mems → i < length net.mems
     → length mems ≡ length net.mems
-    → AllByRecursion (IsTableWrite (widths_at now table) (words_width now (slice_index_or mems i e)))
+    → AllByRecursion (IsTableWrite (widths_at now table) (memory_width now (slice_index_or mems i e)))
     (slice_index_or net.mems i d).writes
 writes_here old now net table mems i d e wide own all h whole shape below long =
     let words = slice_index_or mems i e in
     let mem = slice_index_or net.mems i d in
     let memory : IsMemory old words = memory_in old mems i e all (omega (arith, long, below)) in
-    let width : words_width now words ≡ mem.width =
-    words_kept old now words h memory ∙ width_of_words old net.mems mems i d e shape below in
+    let width : memory_width now words ≡ mem.width =
+    memory_kept old now words h memory ∙ width_of_words old net.mems mems i d e shape below in
     let P : ℕ → Type 0 = λ w. AllByRecursion (IsTableWrite (widths_at now table) w) mem.writes in
     let Q : List ℕ → Type 0 = λ ws. AllByRecursion (IsTableWrite ws mem.width) mem.writes in
     subst P (sym width)
@@ -222,68 +217,66 @@ writes_here old now net table mems i d e wide own all h whole shape below long =
 
 -- ---- as the walk reads them
 
-pub mems_long : (net : Netlist) (mems : List (List ℕ)) (ms : List Mem)
-    → map (words_width net) mems ≡ map (λ m. m.width) ms → length mems ≡ length ms
+pub mems_long : (net : Netlist) (mems : List MemoryNodes) (ms : List Mem)
+    → map (memory_width net) mems ≡ map (λ m. m.width) ms → length mems ≡ length ms
 mems_long net mems ms e =
-    sym (length-map mems (words_width net)) ∙ ap length e ∙ length-map ms (λ (m : Mem). m.width)
+    sym (length-map mems (memory_width net)) ∙ ap length e ∙ length-map ms (λ (m : Mem). m.width)
 
 -- the words of a memory, in a net with more nodes
-pub memory_read : (old now : Netlist) (mems kept : List (List ℕ)) (i : ℕ) (words : List ℕ) → AddsNodes old now
+pub memory_read : (old now : Netlist) (mems kept : List MemoryNodes) (i : ℕ) (words : MemoryNodes) → AddsNodes old now
     → AreMemories old mems → kept ≡ mems → i < length mems → words ≡ slice_index_or kept i words
     → IsMemory now words
 memory_read old now mems kept i words h all same below is =
-    let P : List ℕ → Type 0 = λ ws. IsMemory now ws in
+    let P : MemoryNodes → Type 0 = λ ws. IsMemory now ws in
     subst P (sym (is ∙ ap (λ ms. slice_index_or ms i words) same))
     (memory_in now mems i words (memories_there old now mems h all) below)
 
 -- and its writes
-pub writes_read : (old now net : Netlist) (table : List ℕ) (mems kept : List (List ℕ)) (items : List Mem) (i : ℕ)
-    (mem : Mem) (words : List ℕ)
+pub writes_read : (old now net : Netlist) (table : List ℕ) (mems kept : List MemoryNodes) (items : List Mem) (i : ℕ)
+    (mem : Mem) (words : MemoryNodes)
     → widths_at old table ≡ widths_of net → AreNodes old table → AreMemories old mems → AddsNodes old now
     → IsNet net
-    → map (words_width old) mems ≡ map (λ m. m.width) net.mems → i < length net.mems
+    → map (memory_width old) mems ≡ map (λ m. m.width) net.mems → i < length net.mems
     → items ≡ net.mems → mem ≡ slice_index_or items i mem → kept ≡ mems
     → words ≡ slice_index_or kept i words
-    → AllByRecursion (IsTableWrite (widths_at now table) (words_width now words)) mem.writes
+    → AllByRecursion (IsTableWrite (widths_at now table) (memory_width now words)) mem.writes
 writes_read old now net table mems kept items i mem words wide own all h whole shape below items_are mem_is same is =
-    let P : List ℕ → Type 0 = λ ws. AllByRecursion (IsTableWrite (widths_at now table) (words_width now ws))
+    let P : MemoryNodes → Type 0 = λ ws. AllByRecursion (IsTableWrite (widths_at now table) (memory_width now ws))
     mem.writes in
     let Q : Mem → Type 0 = λ m. AllByRecursion
-    (IsTableWrite (widths_at now table) (words_width now (slice_index_or mems i words))) m.writes in
+    (IsTableWrite (widths_at now table) (memory_width now (slice_index_or mems i words))) m.writes in
     subst P (sym (is ∙ ap (λ ms. slice_index_or ms i words) same))
     (subst Q (sym (mem_is ∙ ap (λ ms. slice_index_or ms i mem) items_are))
     (writes_here old now net table mems i mem words wide own all h whole shape below
     (mems_long old mems net.mems shape)))
 
-pub moving_read : (old now new net : Netlist) (table : List ℕ) (mems kept : List (List ℕ)) (items : List Mem) (i :
+pub moving_read : (old now new net : Netlist) (table : List ℕ) (mems kept : List MemoryNodes) (items : List Mem) (i :
     ℕ)
-    (made longer : List (List ℕ)) (mem : Mem) (words next : List ℕ)
-    → map (words_width old) mems ≡ map (λ m. m.width) net.mems → i < length net.mems
+    (made longer : List MemoryNodes) (mem : Mem) (words next : MemoryNodes)
+    → map (memory_width old) mems ≡ map (λ m. m.width) net.mems → i < length net.mems
     → IsNet net → AreNodes old table → AreMemories old mems → Moving old now net table mems i made
     → AddsNodes now new
     → items ≡ net.mems → mem ≡ slice_index_or items i mem → kept ≡ mems
     → words ≡ slice_index_or kept i words
-    → length next ≡ length words
-    → AreNodesOf new (words_width now words) next
-    → ((g : Given) → IsGiven now g → numbers_of new g next
-    ≡ write_each (numbers_of now g table) (words_width now words) (numbers_of now g words) mem.writes)
+    → IsMemory new next → memory_width new next ≡ memory_width now words
+    → ((g : Given) → IsGiven now g → memory_numbers new g next
+    ≡ write_each (numbers_of now g table) (memory_width now words) (memory_numbers now g words) mem.writes)
     → longer ≡ made ++ next ∷ []
     → Moving old new net table mems (i + 1) longer
 moving_read old now new net table mems kept items i made longer mem words next shape below whole own all h more
-    items_are mem_is same is each there numbers pushed =
+    items_are mem_is same is there width numbers pushed =
     let w : words ≡ slice_index_or mems i words = is ∙ ap (λ ms. slice_index_or ms i words) same in
     let m : mem ≡ slice_index_or net.mems i mem = mem_is ∙ ap (λ ms. slice_index_or ms i mem) items_are in
-    let P : List ℕ → Type 0 = λ ws. AreNodesOf new (words_width now ws) next in
     moving_next old now new net table mems i made longer mem words next shape below
-    (mems_long old mems net.mems shape) whole own all h more (each ∙ ap length w) (subst P w there)
+    (mems_long old mems net.mems shape) whole own all h more there (width ∙ ap (memory_width now) w)
     (λ g given. numbers g given
-    ∙ (λ k. write_each (numbers_of now g table) (words_width now (w k)) (numbers_of now g (w k)) (m k).writes))
+    ∙ (λ k. write_each (numbers_of now g table) (memory_width now (w k)) (memory_numbers now g (w k)) (m k).writes))
     pushed
 
 -- all memories
-pub moved_shape : (old now net : Netlist) (table : List ℕ) (mems : List (List ℕ)) (i : ℕ) (made : List (List ℕ))
+pub moved_shape : (old now net : Netlist) (table : List ℕ) (mems : List MemoryNodes) (i : ℕ) (made : List MemoryNodes)
     → length net.mems ≤ i → Moving old now net table mems i made
-    → map (words_width now) made ≡ map (λ m. m.width) net.mems
+    → map (memory_width now) made ≡ map (λ m. m.width) net.mems
 moved_shape old now net table mems i made past h = h.shape ∙ all_widths net.mems i past
   where
     all_widths : (ms : List Mem) (i : ℕ) → length ms ≤ i
@@ -293,12 +286,11 @@ moved_shape old now net table mems i made past h = h.shape ∙ all_widths net.me
     all_widths (m ∷ ms) zero past = absurd (omega arith)
     all_widths (m ∷ ms) (suc i) past = ap (λ ws. m.width ∷ ws) (all_widths ms i (omega arith))
 
-pub moved_numbers : (old now net : Netlist) (table : List ℕ) (mems : List (List ℕ)) (i : ℕ) (made : List (List
-    ℕ))
+pub moved_numbers : (old now net : Netlist) (table : List ℕ) (mems : List MemoryNodes) (i : ℕ) (made : List MemoryNodes)
     (g : Given) → IsGiven old g → length net.mems ≤ i → Moving old now net table mems i made
-    → map (numbers_of now g) made ≡ next_mems (numbers_of old g table) net.mems (map (numbers_of old g) mems)
+    → map (memory_numbers now g) made ≡ next_mems (numbers_of old g table) net.mems (map (memory_numbers old g) mems)
 moved_numbers old now net table mems i made g given past h =
-    h.numbers g given ∙ next_all (numbers_of old g table) net.mems (map (numbers_of old g) mems) i past
+    h.numbers g given ∙ next_all (numbers_of old g table) net.mems (map (memory_numbers old g) mems) i past
 
 -- ---- the whole state
 

@@ -25,7 +25,7 @@ use Rattle.bm_unroll.specs.declared.frames.Source.{Source}
 use Rattle.bm_unroll.specs.declared.frames.Frames.{Frames}
 use Rattle.bm_unroll.specs.declared.draft.Draft.{Draft}
 use Rattle.bm_unroll.specs.Frames.{HasRoots, HasWatch, IsFrames, chosen, frames_shape, source_width, values_under}
-use Rattle.bm_unroll.specs.Draft.{Agree, HasRows, HasStart, IsDraft}
+use Rattle.bm_unroll.specs.Draft.{Agree, HasRows, HasBegun, IsDraft}
 use Rattle.bm_unroll.proofs.Choosing.{numbers_of_choice}
 
 -- the numbers of all sources
@@ -130,7 +130,7 @@ values_are net d frames f cycle bound ch h k =
 -- the roots of all cycles
 pub framed_roots : (net : Netlist) (d : Draft) (frames : Netlist) (f : Frames) (cycle bound bad : ℕ)
     (rows read : List (List ℕ)) (start : StateNodes) (roots : List ℕ) → IsDraft net cycle bound d
-    → AreFramed d frames f → HasRows net d rows → length rows ≡ cycle + 1 → read ≡ rows → HasStart net d start
+    → AreFramed d frames f → HasRows net d rows → length rows ≡ cycle + 1 → read ≡ rows → HasBegun net d start
     → f.roots ≡ roots
     → ((g : Given) → IsGiven d.net g → AreOther (numbers_of frames g roots)
     ↔ IsBadAt net (rows_by d.net g read) (state_by d.net g start) bad cycle)
@@ -158,7 +158,7 @@ framed_roots net d frames f cycle bound bad rows read start roots h k rows_are e
 -- and the watched nodes in the last
 pub framed_watch : (net : Netlist) (d : Draft) (frames : Netlist) (f : Frames) (cycle bound : ℕ) (watch : List ℕ)
     (rows read : List (List ℕ)) (start : StateNodes) (ids : List ℕ) → IsDraft net cycle bound d → AreFramed d frames f
-    → HasRows net d rows → length rows ≡ cycle + 1 → read ≡ rows → HasStart net d start → f.watch ≡ ids
+    → HasRows net d rows → length rows ≡ cycle + 1 → read ≡ rows → HasBegun net d start → f.watch ≡ ids
     → ((g : Given) → IsGiven d.net g → numbers_of frames g ids
     ≡ map (value_at net (cycle_at net (rows_by d.net g read) (state_by d.net g start) cycle)) watch)
     → HasWatch net watch cycle f

@@ -14,8 +14,9 @@ use Rattle.wn_net.specs.Net.{Netlist, IsNode, AreNodes, IsNet, value_at, shape_o
 use Rattle.wn_net.specs.Changes.{AddsNodes}
 use Rattle.wn_net.proofs.Laws.{adds_on, adds_none, given_on}
 use Rattle.wn_run.specs.Runs.{IsMet, cycle_at}
-use Rattle.wn_mem.specs.Words.{words_width, numbers_of}
+use Rattle.wn_mem.specs.Words.{numbers_of}
 use Rattle.bm_unroll.specs.declared.state.StateNodes.{StateNodes}
+use Rattle.bm_unroll.specs.Memories.{memory_width}
 use Rattle.bm_unroll.specs.Cycle.{AreStateNodes, StandFor, given_by, state_by, widths_at}
 use Rattle.bm_unroll.specs.Moved.{moved}
 use Rattle.bm_unroll.proofs.Copying.{node_in, nodes_there, nodes_push, widths_kept, numbers_kept}
@@ -191,7 +192,7 @@ pub passes_next : (old now mid new net : Netlist) (rows : List (List ℕ)) (star
     → ((g : Given) → IsGiven now g → numbers_of mid g table ≡ values_of net (given_by now g row state))
     → longer ≡ roots ++ map (slice_index table) net.assumes
     → AddsNodes mid new → AreStateNodes new next → widths_at new next.regs ≡ (shape_of net).regs
-    → map (words_width new) next.mems ≡ (shape_of net).mems
+    → map (memory_width new) next.mems ≡ (shape_of net).mems
     → ((g : Given) → IsGiven mid g
     → state_by new g next ≡ moved net (numbers_of mid g table) (state_by mid g state))
     → Passes old new net rows start (k + 1) next longer

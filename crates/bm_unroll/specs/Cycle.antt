@@ -1,24 +1,17 @@
 -- Between functions: One cycle of a net as nodes of another net, the frames (rule of this project).
-use Rattle.std.specs.Prelude.{◌≡◌, ℕ, ◌≤◌, List, length, map}
-use Rattle.std.specs.List.{AllByRecursion}
+use Rattle.std.specs.Prelude.{◌≡◌, ℕ, List, map}
 use Rattle.wn_net.specs.declared.node.Node.{Node}
 use Rattle.wn_net.specs.declared.parts.State.{State}
 use Rattle.wn_net.specs.Width.{Shape, width, IsFitting}
 use Rattle.wn_net.specs.Value.{Given, value}
 use Rattle.wn_net.specs.Given.{IsGiven, given}
 use Rattle.wn_net.specs.Net.{Netlist, IsNode, AreNodes, shape_of, width_at, value_at}
-use Rattle.wn_mem.specs.Words.{AreWords, words_width, numbers_of}
+use Rattle.wn_mem.specs.Words.{numbers_of}
+use Rattle.bm_unroll.specs.Memories.{AreMemories, memory_numbers, memory_width}
 use Rattle.bm_unroll.specs.declared.state.StateNodes.{StateNodes}
 
 abbrev pub widths_at : Netlist → List ℕ → List ℕ
 widths_at net ids = map (width_at net) ids
-
--- nodes are there for the words of a memory, of one width
-abbrev pub IsMemory : Netlist → List ℕ → Type 0
-IsMemory net words = (1 ≤ length words) × AreWords net words
-
-abbrev pub AreMemories : Netlist → List (List ℕ) → Type 0
-AreMemories net mems = AllByRecursion (IsMemory net) mems
 
 -- nodes are there for the registers and for the words of the memories
 pub record AreStateNodes (net : Netlist) (state : StateNodes) : Type 0 where
@@ -30,13 +23,13 @@ abbrev pub shape_by : Netlist → List ℕ → StateNodes → Shape
 shape_by net inputs state = record {
   inputs = widths_at net inputs;
   regs = widths_at net state.regs;
-  mems = map (words_width net) state.mems;
+  mems = map (memory_width net) state.mems;
 }
 
 -- the numbers of the state for which these nodes stand
 abbrev pub state_by : Netlist → Given → StateNodes → State
 state_by net g state =
-    record { regs = numbers_of net g state.regs; mems = map (numbers_of net g) state.mems }
+    record { regs = numbers_of net g state.regs; mems = map (memory_numbers net g) state.mems }
 
 -- and those of the cycle
 abbrev pub given_by : Netlist → Given → List ℕ → StateNodes → Given

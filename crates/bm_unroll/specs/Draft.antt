@@ -2,13 +2,16 @@
 use Rattle.std.specs.Prelude.{◌≡◌, ℕ, ◌+◌, ◌*◌, ◌^◌, ◌<◌, ◌≤◌, List, [], ◌∷◌}
 use Rattle.std.specs.Prelude.{length, map, slice_index_or}
 use Rattle.std.specs.List.{AllByRecursion}
+use Rattle.wn_net.specs.declared.parts.State.{State}
 use Rattle.wn_net.specs.Value.{Given}
 use Rattle.wn_net.specs.Net.{Netlist, IsNodeOf, AreNodes, shape_of, value_at}
 use Rattle.wn_net.specs.Changes.{Grows, IsBegun}
 use Rattle.wn_run.specs.Runs.{Choices, inputs_at, start_of}
 use Rattle.wn_mem.specs.Words.{numbers_of, words_width}
+use Rattle.bm_unroll.specs.declared.state.StartNodes.{StartNodes}
 use Rattle.bm_unroll.specs.declared.state.StateNodes.{StateNodes}
-use Rattle.bm_unroll.specs.Cycle.{AreMemories, state_by, widths_at}
+use Rattle.bm_unroll.specs.Memories.{HaveWords}
+use Rattle.bm_unroll.specs.Cycle.{state_by, widths_at}
 use Rattle.bm_unroll.specs.Walk.{IsStart}
 use Rattle.bm_unroll.specs.declared.frames.Source.{Source}
 use Rattle.bm_unroll.specs.declared.frames.Source.TheVariants as s
@@ -63,10 +66,14 @@ pub record MeansAll (d : Draft) (widths : List ℕ) (numbers : Choices → List 
   pub values : (ch : Choices) (g : Given) → Agree ch d.sources.items g.inputs
       → numbers_of d.net g ids ≡ numbers ch
 
+-- nodes are there for the words of memories, of one width each
+abbrev pub AreWordLists : Netlist → List (List ℕ) → Type 0
+AreWordLists net mems = AllByRecursion (HaveWords net) mems
+
 -- and so for the words of memories
 pub record MeansMems (d : Draft) (widths : List ℕ) (numbers : Choices → List (List ℕ))
     (mems : List (List ℕ)) : Type 0 where
-  pub there : AreMemories d.net mems
+  pub there : AreWordLists d.net mems
   pub wide : map (words_width d.net) mems ≡ widths
   pub values : (ch : Choices) (g : Given) → Agree ch d.sources.items g.inputs
       → map (numbers_of d.net g) mems ≡ numbers ch
@@ -77,8 +84,21 @@ HasRows net d rows =
     (k : ℕ) → k < length rows
     → MeansAll d (shape_of net).inputs (λ ch. inputs_at net ch k) (slice_index_or rows k [])
 
+-- the numbers of the state for which nodes at first stand
+abbrev pub start_by : Netlist → Given → StartNodes → State
+start_by net g start = record { regs = numbers_of net g start.regs; mems = map (numbers_of net g) start.mems }
+
 -- and nodes for the state of the first cycle
-pub record HasStart (net : Netlist) (d : Draft) (state : StateNodes) : Type 0 where
+pub record HasStart (net : Netlist) (d : Draft) (start : StartNodes) : Type 0 where
+  pub regs_there : AreNodes d.net start.regs
+  pub mems_there : AreWordLists d.net start.mems
+  pub regs : widths_at d.net start.regs ≡ (shape_of net).regs
+  pub mems : map (words_width d.net) start.mems ≡ (shape_of net).mems
+  pub values : (ch : Choices) (g : Given) → Agree ch d.sources.items g.inputs
+      → start_by d.net g start ≡ start_of net ch
+
+-- the same, each memory in its form
+pub record HasBegun (net : Netlist) (d : Draft) (state : StateNodes) : Type 0 where
   pub start : IsStart d.net (shape_of net) state
   pub values : (ch : Choices) (g : Given) → Agree ch d.sources.items g.inputs
       → state_by d.net g state ≡ start_of net ch

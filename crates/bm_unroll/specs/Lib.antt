@@ -1,4 +1,5 @@
 pub mod Cycle
+pub mod Memories
 pub mod Moved
 pub mod Walk
 pub mod Draft

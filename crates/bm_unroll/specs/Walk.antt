@@ -8,8 +8,9 @@ use Rattle.wn_net.specs.Given.{IsGiven}
 use Rattle.wn_net.specs.Net.{Netlist, AreNodes, shape_of, value_at}
 use Rattle.wn_net.specs.Changes.{AddsNodes}
 use Rattle.wn_run.specs.Runs.{IsAssumed, IsMet, cycle_at, state_at}
-use Rattle.wn_mem.specs.Words.{words_width, numbers_of}
+use Rattle.wn_mem.specs.Words.{numbers_of}
 use Rattle.bm_unroll.specs.declared.state.StateNodes.{StateNodes}
+use Rattle.bm_unroll.specs.Memories.{memory_width}
 use Rattle.bm_unroll.specs.Cycle.{AreStateNodes, state_by, widths_at}
 
 -- the inputs of each cycle for which rows of nodes stand
@@ -27,7 +28,7 @@ AreRows net s rows = AllByRecursion (IsRow net s) rows
 pub record IsStart (net : Netlist) (s : Shape) (state : StateNodes) : Type 0 where
   pub there : AreStateNodes net state
   pub regs : widths_at net state.regs ≡ s.regs
-  pub mems : map (words_width net) state.mems ≡ s.mems
+  pub mems : map (memory_width net) state.mems ≡ s.mems
 
 -- no number is 0
 abbrev pub AreOther : List ℕ → Type 0

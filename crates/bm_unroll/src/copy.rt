@@ -6,14 +6,30 @@ ghost use Rattle.wn_net.specs.Value.{Given, word_at, words_at};
 ghost use Rattle.wn_net.specs.Given.{IsGiven};
 ghost use Rattle.wn_net.specs.Net.{IsNode, IsNodeOf, AreNodes, value_at, widths_of, values_of};
 ghost use Rattle.wn_net.specs.Changes.{AddsNodes};
-ghost use Rattle.wn_mem.specs.Words.{numbers_of, words_width};
-ghost use Rattle.bm_unroll.specs.Cycle.{AreMemories, Copies, IsCopyable, StandFor, given_by, widths_at};
+ghost use Rattle.wn_mem.specs.Words.{numbers_of};
+ghost use Rattle.bm_unroll.specs.Memories.{AreMemories, IsMemory, memory_numbers, memory_width};
+ghost use Rattle.bm_unroll.specs.Cycle.{Copies, IsCopyable, StandFor, given_by, widths_at};
 
-use crate::state::StateNodes;
+use crate::state::{MemoryNodes, StateNodes};
 use fv_text::Memory;
 use std::alloc::Global;
 use wn_mem::read_after;
 use wn_net::{Net, Node, NodeId};
+
+/// The node that stands for the word at an address, by what stands for the words.
+fn read_memory(frames: &mut Net, memory: &MemoryNodes, addr: NodeId) -> Result<NodeId, Memory>
+    requires memory { IsMemory frames.old memory.now }
+    requires addr { IsNode frames.old addr }
+    ensures adds { AddsNodes frames.old frames.new }
+    ensures there { IfOk result (IsNodeOf frames.new (memory_width frames.old memory.now)) }
+    ensures value { IfOk result (λ id. (g : Given) → IsGiven frames.old g → value_at frames.new g id
+        ≡ word_at (memory_numbers frames.old g memory.now) (value_at frames.old g addr)) }
+{
+    match memory {
+        MemoryNodes::Words(words) => Ok(read_after(frames, words.as_slice(), addr)?),
+        MemoryNodes::Writes(chain) => Ok(chain.read(frames, addr)?),
+    }
+}
 
 /// The node that stands for the word of a memory at an address.
 fn read_word(frames: &mut Net, state: &StateNodes, mem: u32, addr: NodeId) -> Result<NodeId, Memory>
@@ -21,13 +37,12 @@ fn read_word(frames: &mut Net, state: &StateNodes, mem: u32, addr: NodeId) -> Re
     requires mem { mem < length state.now.mems }
     requires addr { IsNode frames.old addr }
     ensures adds { AddsNodes frames.old frames.new }
-    ensures there { IfOk result (IsNodeOf frames.new (slice_index (map (words_width frames.old) state.now.mems) mem)) }
+    ensures there { IfOk result (IsNodeOf frames.new (slice_index (map (memory_width frames.old) state.now.mems) mem)) }
     ensures value { IfOk result (λ id. (g : Given) → IsGiven frames.old g → value_at frames.new g id
-        ≡ word_at (words_at (map (numbers_of frames.old g) state.now.mems) mem) (value_at frames.old g addr)) }
+        ≡ word_at (words_at (map (memory_numbers frames.old g) state.now.mems) mem) (value_at frames.old g addr)) }
 {
     let mems = state.mems.as_slice();
-    let words = &mems[mem as usize];
-    let found = read_after(frames, words.as_slice(), addr)?;
+    let found = read_memory(frames, &mems[mem as usize], addr)?;
     Ok(found)
 }
 

@@ -11,6 +11,7 @@ mod draft;
 mod frames;
 mod inputs;
 mod limits;
+mod memory;
 mod next;
 mod shrink;
 mod starts;

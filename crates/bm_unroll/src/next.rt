@@ -8,12 +8,13 @@ ghost use Rattle.wn_net.specs.Net.{AreNodes, AreNodesOf, shape_of, widths_of};
 ghost use Rattle.wn_net.specs.Given.{IsGiven};
 ghost use Rattle.wn_net.specs.Changes.{AddsNodes};
 ghost use Rattle.wn_net.specs.Next.{next_mems, write_each};
-ghost use Rattle.wn_mem.specs.Words.{words_width, numbers_of};
-ghost use Rattle.bm_unroll.specs.Cycle.{AreMemories, AreStateNodes, IsMemory, state_by, widths_at};
+ghost use Rattle.wn_mem.specs.Words.{numbers_of};
+ghost use Rattle.bm_unroll.specs.Memories.{AreMemories, IsMemory, memory_numbers, memory_width};
+ghost use Rattle.bm_unroll.specs.Cycle.{AreStateNodes, state_by, widths_at};
 ghost use Rattle.bm_unroll.specs.Moved.{IsTableWrite, moved};
 
-use crate::state::StateNodes;
-use crate::words::next_words;
+use crate::state::{MemoryNodes, StateNodes};
+use crate::words::{next_chain, next_words};
 use fv_text::{List, Memory};
 use std::alloc::Global;
 use wn_net::{Mem, Net, NodeId};
@@ -36,27 +37,30 @@ fn next_memory(
     frames: &mut Net,
     mem: &Mem,
     table: &[NodeId],
-    words: &List<NodeId>,
-) -> Result<List<NodeId>, Memory>
-    requires memory { IsMemory frames.old words.now }
+    memory: &MemoryNodes,
+) -> Result<MemoryNodes, Memory>
+    requires memory { IsMemory frames.old memory.now }
     requires table { AreNodes frames.old table.now }
     requires writes { AllByRecursion (IsTableWrite (widths_at frames.old table.now)
-        (words_width frames.old words.now)) mem.now.writes }
+        (memory_width frames.old memory.now)) mem.now.writes }
     ensures adds { AddsNodes frames.old frames.new }
-    ensures each { IfOk result (λ next. length next ≡ length words.now) }
-    ensures there { IfOk result (AreNodesOf frames.new (words_width frames.old words.now)) }
-    ensures numbers { IfOk result (λ next. (g : Given) → IsGiven frames.old g → numbers_of frames.new g next
-        ≡ write_each (numbers_of frames.old g table.now) (words_width frames.old words.now)
-        (numbers_of frames.old g words.now) mem.now.writes) }
+    ensures there { IfOk result (IsMemory frames.new) }
+    ensures width { IfOk result (λ next. memory_width frames.new next ≡ memory_width frames.old memory.now) }
+    ensures numbers { IfOk result (λ next. (g : Given) → IsGiven frames.old g → memory_numbers frames.new g next
+        ≡ write_each (numbers_of frames.old g table.now) (memory_width frames.old memory.now)
+        (memory_numbers frames.old g memory.now) mem.now.writes) }
 {
-    let next = next_words(
-        alloc,
-        frames,
-        mem.writes.as_slice(),
-        table,
-        words.as_slice(),
-    )?;
-    Ok(List::from_vec(next))
+    let writes = mem.writes.as_slice();
+    match memory {
+        MemoryNodes::Words(words) => {
+            let next = next_words(alloc, frames, writes, table, words.as_slice())?;
+            Ok(MemoryNodes::Words(List::from_vec(next)))
+        }
+        MemoryNodes::Writes(chain) => {
+            let next = next_chain(alloc, frames, writes, table, chain)?;
+            Ok(MemoryNodes::Writes(next))
+        }
+    }
 }
 
 /// What stands for the words of each memory in the next cycle.
@@ -65,18 +69,18 @@ fn next_memories(
     frames: &mut Net,
     net: &Net,
     table: &[NodeId],
-    mems: &List<List<NodeId>>,
-) -> Result<Vec<List<NodeId>>, Memory>
+    mems: &List<MemoryNodes>,
+) -> Result<Vec<MemoryNodes>, Memory>
     requires table { AreNodes frames.old table.now }
     requires widths { widths_at frames.old table.now ≡ widths_of net.now }
     requires mems { AreMemories frames.old mems.now }
-    requires shape { map (words_width frames.old) mems.now ≡ (shape_of net.now).mems }
+    requires shape { map (memory_width frames.old) mems.now ≡ (shape_of net.now).mems }
     ensures adds { AddsNodes frames.old frames.new }
     ensures there { IfOk result (λ r. AreMemories frames.new r.items) }
-    ensures shape { IfOk result (λ r. map (words_width frames.new) r.items ≡ (shape_of net.now).mems) }
+    ensures shape { IfOk result (λ r. map (memory_width frames.new) r.items ≡ (shape_of net.now).mems) }
     ensures numbers { IfOk result (λ r. (g : Given) → IsGiven frames.old g
-        → map (numbers_of frames.new g) r.items
-        ≡ next_mems (numbers_of frames.old g table.now) net.now.mems (map (numbers_of frames.old g) mems.now)) }
+        → map (memory_numbers frames.new g) r.items
+        ≡ next_mems (numbers_of frames.old g table.now) net.now.mems (map (memory_numbers frames.old g) mems.now)) }
 {
     let old = mems.as_slice();
     let mut made = Vec::with_capacity(alloc, old.len())?;
@@ -87,7 +91,7 @@ fn next_memories(
     Ok(made)
 }
 
-fn state_of(regs: Vec<NodeId>, mems: Vec<List<NodeId>>) -> StateNodes
+fn state_of(regs: Vec<NodeId>, mems: Vec<MemoryNodes>) -> StateNodes
     ensures regs { result.regs ≡ regs.items }
     ensures mems { result.mems ≡ mems.items }
 {
@@ -108,11 +112,11 @@ pub fn next_nodes(
     requires table { AreNodes frames.old table.now }
     requires widths { widths_at frames.old table.now ≡ widths_of net.now }
     requires state { AreMemories frames.old state.now.mems }
-    requires shape { map (words_width frames.old) state.now.mems ≡ (shape_of net.now).mems }
+    requires shape { map (memory_width frames.old) state.now.mems ≡ (shape_of net.now).mems }
     ensures adds { AddsNodes frames.old frames.new }
     ensures there { IfOk result (AreStateNodes frames.new) }
     ensures regs { IfOk result (λ next. widths_at frames.new next.regs ≡ (shape_of net.now).regs) }
-    ensures mems { IfOk result (λ next. map (words_width frames.new) next.mems ≡ (shape_of net.now).mems) }
+    ensures mems { IfOk result (λ next. map (memory_width frames.new) next.mems ≡ (shape_of net.now).mems) }
     ensures numbers { IfOk result (λ next. (g : Given) → IsGiven frames.old g
         → state_by frames.new g next
         ≡ moved net.now (numbers_of frames.old g table.now) (state_by frames.old g state.now)) }

@@ -11,7 +11,7 @@ ghost use Rattle.bm_unroll.specs.Frames.{IsChoice, chosen, source_width};
 
 use crate::draft::Draft;
 use crate::frames::Source;
-use crate::state::StateNodes;
+use crate::state::StartNodes;
 use fv_text::{List, Memory};
 use std::alloc::Global;
 use wn_net::{Init, Mem, Net, NodeId};
@@ -104,7 +104,7 @@ fn mem_starts(alloc: Global, draft: &mut Draft, net: &Net) -> Result<List<List<N
 }
 
 /// What stands for the state in the first cycle.
-pub(crate) fn starts(alloc: Global, draft: &mut Draft, net: &Net) -> Result<StateNodes, Memory>
+pub(crate) fn starts(alloc: Global, draft: &mut Draft, net: &Net) -> Result<StartNodes, Memory>
     requires few { length net.now.regs + sum (map (λ m. m.words) net.now.mems) ≤ 100000000 }
     requires room { HasRoom draft.old 100000000 }
     ensures extends { OnOk result (Extends draft.old draft.new 100000000) }
@@ -114,5 +114,5 @@ pub(crate) fn starts(alloc: Global, draft: &mut Draft, net: &Net) -> Result<Stat
 {
     let regs = reg_starts(alloc, draft, net)?;
     let mems = mem_starts(alloc, draft, net)?;
-    Ok(StateNodes { regs, mems })
+    Ok(StartNodes { regs, mems })
 }

@@ -9,6 +9,7 @@ use crate::cycles::walk_cycles;
 use crate::draft::Draft;
 use crate::frames::Frames;
 use crate::inputs::input_rows;
+use crate::memory::begin;
 use crate::shrink::shrink;
 use crate::starts::starts;
 use fv_text::Memory;
@@ -39,9 +40,10 @@ pub fn unroll(
     ensures read { IfOk result AreRead }
 {
     let mut draft = Draft::new(alloc);
-    let start = starts(alloc, &mut draft, net)?;
+    let words = starts(alloc, &mut draft, net)?;
     let rows = input_rows(alloc, &mut draft, net, cycle)?;
     let rows = rows.as_slice();
+    let start = begin(alloc, net, words)?;
     let walked = walk_cycles(alloc, &mut draft.net, net, rows, cycle, start, bad, watch)?;
     let frames = shrink(alloc, draft, walked)?;
     Ok(frames)

@@ -10,10 +10,12 @@ ghost use Rattle.wn_net.specs.Changes.{AddsNodes};
 ghost use Rattle.wn_net.specs.Next.{write_each};
 ghost use Rattle.wn_mem.specs.Words.{AreWords, words_width, numbers_of, after_write};
 ghost use Rattle.bm_unroll.specs.Cycle.{widths_at};
+ghost use Rattle.wn_chain.specs.Chains.{IsChain, words_in};
 ghost use Rattle.bm_unroll.specs.Moved.{IsTableWrite, copied};
 
 use fv_text::Memory;
 use std::alloc::Global;
+use wn_chain::Chain;
 use wn_mem::write_all;
 use wn_net::{MemWrite, Net, NodeId};
 
@@ -78,6 +80,32 @@ pub(crate) fn next_words(
     for write in writes {
         let copy = copy_write(table, write);
         write_once(alloc, frames, &mut made, &copy)?;
+    }
+    Ok(made)
+}
+
+/// What stands for a memory after its writes, by the chain of the writes before.
+pub(crate) fn next_chain(
+    alloc: Global,
+    frames: &Net,
+    writes: &[MemWrite],
+    table: &[NodeId],
+    chain: &Chain,
+) -> Result<Chain, Memory>
+    requires chain { IsChain frames.now chain.now }
+    requires table { AreNodes frames.now table.now }
+    requires writes { AllByRecursion (IsTableWrite (widths_at frames.now table.now)
+        (words_width frames.now chain.now.words)) writes.now }
+    ensures there { IfOk result (IsChain frames.now) }
+    ensures width { IfOk result (λ r. words_width frames.now r.words ≡ words_width frames.now chain.now.words) }
+    ensures numbers { IfOk result (λ r. (g : Given) → words_in frames.now g r
+        ≡ write_each (numbers_of frames.now g table.now) (words_width frames.now chain.now.words)
+        (words_in frames.now g chain.now) writes.now) }
+{
+    let mut made = chain.copy(alloc)?;
+    for write in writes {
+        let copy = copy_write(table, write);
+        made.push(frames, &copy)?;
     }
     Ok(made)
 }

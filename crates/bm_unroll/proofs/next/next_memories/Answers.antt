@@ -33,7 +33,7 @@ loop-index-preserved c =
     c.push.new.self.items c.mem-item.result c.index-old-index.result c.in_ok-next.next c.requires.shape below
     c.mems-mem-items.ensures.whole c.requires.table c.requires.mems c.loop-index.invariant
     c.in_ok-next.ensures.adds c.mems-mem-items.ensures.value c.mem-item.is c.as_slice-old.ensures c.index-old-index.is
-    c.in_ok-next.ensures.each c.in_ok-next.ensures.there c.in_ok-next.ensures.numbers c.in_ok-push.ensures.items
+    c.in_ok-next.ensures.there c.in_ok-next.ensures.width c.in_ok-next.ensures.numbers c.in_ok-push.ensures.items
 
 pub returns-clause-shape : goal.returns-clause-shape
 returns-clause-shape c =

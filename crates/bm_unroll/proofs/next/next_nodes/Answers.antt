@@ -1,7 +1,7 @@
 use Rattle.std.proofs.Common.{ap, ◌∙◌, subst, sym}
-use Rattle.std.specs.Prelude.{List, ℕ, map}
-use Rattle.wn_mem.specs.Words.{words_width, numbers_of}
-use Rattle.bm_unroll.specs.Cycle.{AreMemories}
+use Rattle.std.specs.Prelude.{List, map}
+use Rattle.bm_unroll.specs.declared.state.MemoryNodes.{MemoryNodes}
+use Rattle.bm_unroll.specs.Memories.{AreMemories, memory_numbers, memory_width}
 use Rattle.bm_unroll.proofs.Moving.{regs_there, regs_widths, regs_numbers, table_long}
 use Rattle.bm_unroll.proofs.next.next_nodes.Goals as goal
 
@@ -11,7 +11,7 @@ next_regs-requires c = table_long c.args.net.now c.args.frames.now c.args.table.
 pub returns-clause-there : goal.returns-clause-there
 returns-clause-there c =
     let new = c.next_memories.new.frames in
-    let P : List (List ℕ) → Type 0 = λ ms. AreMemories new ms in
+    let P : List MemoryNodes → Type 0 = λ ms. AreMemories new ms in
     record {
       regs =
           regs_there c.args.frames.now new c.args.net.now c.args.table.now c.state_of-next.result.regs
@@ -28,7 +28,7 @@ returns-clause-regs c =
 
 pub returns-clause-mems : goal.returns-clause-mems
 returns-clause-mems c =
-    ap (map (words_width c.next_memories.new.frames)) c.state_of-next.ensures.mems ∙ c.in_ok-mems.ensures.shape
+    ap (map (memory_width c.next_memories.new.frames)) c.state_of-next.ensures.mems ∙ c.in_ok-mems.ensures.shape
 
 pub returns-clause-numbers : goal.returns-clause-numbers
 returns-clause-numbers c = λ g given.
@@ -39,5 +39,5 @@ returns-clause-numbers c = λ g given.
           c.in_ok-mems.ensures.adds c.regs.ensures.whole c.requires.table c.requires.widths
           (c.state_of-next.ensures.regs ∙ c.in_ok-regs.ensures) i;
       mems =
-          (ap (map (numbers_of new g)) c.state_of-next.ensures.mems ∙ c.in_ok-mems.ensures.numbers g given) i;
+          (ap (map (memory_numbers new g)) c.state_of-next.ensures.mems ∙ c.in_ok-mems.ensures.numbers g given) i;
     }
