@@ -44,12 +44,15 @@ pub record LacksLast (ps : List Part) (has : Values → Bool) (k : ℕ) (run : L
 pub record AreClausesOf (IsOne IsSought : List Values → Type 0) (notes : List Note) (formula : Cnf) : Type 0 where
   pub before : List (List ℤ)
   pub last : formula.clauses ≡ before ++ (pos formula.vars ∷ []) ∷ []
-  pub model : (run : List Values) → IsOne run → (v : ℕ → Bool) × (formula_true v before ≡ true) × Agree v run notes
+  pub model : (run : List Values) → IsOne run
+      → (v : ℕ → Bool) × (formula_true v before ≡ true) × Agree v run notes
   pub one : (run : List Values) (v w : ℕ → Bool) → IsOne run → formula_true v before ≡ true
       → formula_true w before ≡ true → Agree v run notes → Agree w run notes
       → (k : ℕ) → 1 ≤ k → k ≤ formula.vars → v k ≡ w k
-  pub run : (v : ℕ → Bool) → formula_true v before ≡ true → (run : List Values) × IsOne run × Agree v run notes
-  pub verdict : (v : ℕ → Bool) (run : List Values) → formula_true v before ≡ true → IsOne run → Agree v run notes
+  pub run : (v : ℕ → Bool) → formula_true v before ≡ true
+      → (run : List Values) × IsOne run × Agree v run notes
+  pub verdict : (v : ℕ → Bool) (run : List Values) → formula_true v before ≡ true → IsOne run
+      → Agree v run notes
       → (v formula.vars ≡ true) ↔ IsSought run
 
 -- ---- traces

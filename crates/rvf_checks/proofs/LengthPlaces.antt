@@ -1,5 +1,5 @@
 -- How many answers are counted.
-use Rattle.std.specs.Prelude.{◌≡◌, ℕ, ◌+◌}
+use Rattle.std.specs.Prelude.{◌≡◌, ◌+◌}
 use Rattle.std.proofs.Common.{arith}
 use Rattle.rvf_judge.specs.declared.induction.Induction.{Induction}
 use Rattle.rvf_judge.specs.declared.induction.Induction.TheVariants as induction

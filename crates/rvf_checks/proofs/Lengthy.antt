@@ -1,6 +1,6 @@
 -- Checks of a case in runs of every length, answered by what is loaded for them.
-use Rattle.std.proofs.Common.{◌≡◌, refl, ℕ, zero, suc, ◌≤◌, Bool, true, false, List, [], ◌∷◌, length, Some, None, map, cond}
-use Rattle.std.proofs.Common.{Result, Ok, Err, IfOk, slice_get, ap, sym, ◌∙◌, subst, arith, true≢false}
+use Rattle.std.proofs.Common.{◌≡◌, refl, ℕ, zero, suc, Bool, true, false, List, [], ◌∷◌, Some, None, map, cond}
+use Rattle.std.proofs.Common.{Result, Ok, Err, IfOk, slice_get, ap, sym, ◌∙◌, subst, true≢false}
 use Rattle.std.specs.List.{AllByRecursion, filter}
 use Rattle.std.specs.Prelude.{is_none}
 use Rattle.std.proofs.lemmas.Option.{same_Some}
@@ -11,9 +11,7 @@ use Rattle.lrat_check.specs.declared.step.Step.{Step}
 use Rattle.rv_table.specs.declared.retire.Opts.{Opts}
 use Rattle.rvfi_port.specs.declared.port.Wants.{Wants}
 use Rattle.ck_cfg.specs.declared.check.Check.{Check}
-use Rattle.ck_cfg.specs.declared.kind.CheckKind.{CheckKind}
 use Rattle.ck_cfg.specs.Checks.{checks_of}
-use Rattle.ck_cfg.specs.Lawful.{IsCheck}
 use Rattle.ck_ask.specs.declared.question.Question.{Question}
 use Rattle.ck_ask.specs.declared.question.Question.TheVariants as question
 use Rattle.ck_design.specs.Loaded.{IsLoaded}

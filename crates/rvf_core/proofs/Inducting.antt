@@ -1,5 +1,5 @@
 -- What the answers of an induction say of the designs that the texts of its checks write.
-use Rattle.std.proofs.Common.{◌≡◌, ℕ, Bool, true, false, cond, List, [], ◌∷◌, map, Option, Some, refl, sym, subst}
+use Rattle.std.proofs.Common.{◌≡◌, ℕ, Bool, true, false, cond, List, [], ◌∷◌, map, Some, refl, sym, subst}
 use Rattle.std.proofs.Common.{true≢false}
 use Rattle.std.specs.List.{AllByRecursion, filter}
 use Rattle.rv_table.specs.declared.retire.Opts.{Opts}
@@ -20,7 +20,7 @@ use Rattle.rvf_judge.specs.Sources.{InductionsAreTheSources}
 use Rattle.rvf_judge.specs.declared.induction.Induction.{Induction}
 use Rattle.rvf_checks.specs.Lengths.{AreLengths, IsLength}
 use Rattle.rvf_core.specs.Lengths.{AreInducted, Inducts, InductsWhere}
-use Rattle.rvf_core.specs.Verdicts.{opts_in, text_for, wants_in}
+use Rattle.rvf_core.specs.Verdicts.{text_for, wants_in}
 use Rattle.rvf_core.proofs.Judging.{loaded_of}
 
 -- ---- the questions are those of the checks of one cycle

@@ -34,7 +34,7 @@ use Rattle.rvf_checks.specs.Checked.{answered, begun, head, note_of, skips_of, w
 use Rattle.rvf_checks.specs.CheckLines.{fail_line, note_line, pass_line, skip_line, spent_line, total_line}
 use Rattle.rvf_checks.specs.Counting.{counts_of}
 use Rattle.rvf_checks.specs.declared.wording.Wording.TheVariants as wording
-use Rattle.rvf_report.specs.Outcome.{Outside, Pass, puts_of}
+use Rattle.rvf_report.specs.Outcome.{Pass, puts_of}
 use Rattle.rvf_report.specs.declared.delivery.Delivery.{Delivery}
 use Rattle.rvf_report.specs.declared.delivery.Delivery.TheVariants.{File, Line}
 use Rattle.rvf_report.specs.declared.status.Status.{Status}

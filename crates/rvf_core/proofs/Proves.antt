@@ -7,12 +7,10 @@ use Rattle.std.specs.Prelude.{codes, decimal}
 use Rattle.std.specs.List.{AllByRecursion, Contains}
 use Rattle.fv_base.specs.declared.event.Event.{Event}
 use Rattle.fv_base.specs.declared.event.Event.TheVariants.{Put}
-use Rattle.vl_text.specs.declared.fault.TextFault.TheVariants as text
 use Rattle.ck_cfg.specs.declared.check.Check.{Check}
 use Rattle.ck_cfg.specs.declared.config.Config.{Config}
 use Rattle.ck_cfg.specs.Checks.{checks_of}
 use Rattle.ck_ask.specs.declared.question.Question.{Question}
-use Rattle.ck_design.specs.Retirements.{holds_over, values_at}
 use Rattle.ck_gen.specs.Monitors.{is_of_one_cycle}
 use Rattle.ck_induct.specs.OneCycle.{holds_in_map, in_cycle}
 use Rattle.ck_induct.proofs.OneCycle.{properties_are_of_maps}
@@ -26,7 +24,6 @@ use Rattle.rvf_words.specs.declared.line.Line.{Line as Words}
 use Rattle.rvf_words.specs.declared.line.Line.TheVariants as words
 use Rattle.rvf_words.specs.declared.line.Options.{Options}
 use Rattle.rvf_words.specs.Line.{line_of}
-use Rattle.rvf_case.specs.Loading.{LoadFault}
 use Rattle.rvf_case.specs.Cases.{Request, Seen, questions_in}
 use Rattle.rvf_case.specs.Hearing.{HeardMore}
 use Rattle.rvf_checks.specs.Checked.{head, note_of, skips_of}
@@ -36,7 +33,7 @@ use Rattle.rvf_checks.specs.LengthCounting.{lengths_of}
 use Rattle.rvf_checks.specs.LengthLines.{lengths_line, open_line, proved_line}
 use Rattle.rvf_checks.specs.Lengths.{base_name, length_deliveries, lengths_answered, step_name}
 use Rattle.rvf_report.specs.Lines.{refusal_line}
-use Rattle.rvf_report.specs.Outcome.{Outside, Pass, puts_of}
+use Rattle.rvf_report.specs.Outcome.{Pass, puts_of}
 use Rattle.rvf_report.specs.declared.delivery.Delivery.{Delivery}
 use Rattle.rvf_report.specs.declared.delivery.Delivery.TheVariants.{File, Line}
 use Rattle.rvf_report.specs.declared.status.Status.{Status}

@@ -1,5 +1,5 @@
--- Meaning: What a delivered line `proved NAME K` means, by what was read and put in a run: no run of any length lacks the
--- property of the check. Rule of this project.
+-- Meaning: What a delivered line `proved NAME K` means, by what was read and put in a run: no run of any length lacks
+-- the property of the check. Rule of this project.
 use Rattle.std.specs.Prelude.{◌≡◌, ℕ, List, ◌++◌, Some}
 use Rattle.std.specs.List.{Contains}
 use Rattle.fv_base.specs.Outside.{Told}

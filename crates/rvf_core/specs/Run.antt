@@ -61,7 +61,8 @@ seen_in r = record {
 
 -- the numbers of a line are in their ranges
 abbrev pub IsLine : Words → Type 0
-IsLine (words.Run cfg outdir core basedir budget jobs cubes) = (0 < budget) × (1 ≤ jobs) × (jobs ≤ 64) × (cubes ≤ 6)
+IsLine (words.Run cfg outdir core basedir budget jobs cubes) =
+    (0 < budget) × (1 ≤ jobs) × (jobs ≤ 64) × (cubes ≤ 6)
 IsLine (words.Cover o) = (0 < o.budget) × (1 ≤ o.jobs) × (o.jobs ≤ 64)
 IsLine (words.Zb o) = (0 < o.budget) × (1 ≤ o.jobs) × (o.jobs ≤ 64)
 IsLine (words.Induct o steps) =
@@ -365,12 +366,15 @@ pub record IsExact (status : Status) (r : Run) : Type 0 where
   pub one_fails : (t : Task) (c : Config) (files : List (List ℕ)) (q : Question) → IsAccepted r t c files
       → Contains (questions_in t.request c) q → QuestionFails c files (questions_in t.request c) q
       → comes_in_budget s.Failing status ≡ true
-  pub judged : (t : Task) (c : Config) (files : List (List ℕ)) → IsAccepted r t c files → comes_judged status ≡ true
+  pub judged : (t : Task) (c : Config) (files : List (List ℕ)) → IsAccepted r t c files
+      → comes_judged status ≡ true
   -- so where the checks are asked for, and no run violates one, or one does
   pub pass : (t : Task) (c : Config) (files : List (List ℕ)) → IsAccepted r t c files
-      → t.request.asking ≡ asking.Checks → All (λ x. (run : List Values) → Violates c files x run → ⊥) (checks_of c)
+      → t.request.asking ≡ asking.Checks
+      → All (λ x. (run : List Values) → Violates c files x run → ⊥) (checks_of c)
       → comes_in_budget s.Passed status ≡ true
-  pub fail : (t : Task) (c : Config) (files : List (List ℕ)) (x : Check) (run : List Values) → IsAccepted r t c files
+  pub fail : (t : Task) (c : Config) (files : List (List ℕ)) (x : Check) (run : List Values)
+      → IsAccepted r t c files
       → t.request.asking ≡ asking.Checks → Contains (checks_of c) x → Violates c files x run
       → comes_in_budget s.Failing status ≡ true
   -- the clauses of a graph pass exactly where their file and the line came through
@@ -399,7 +403,8 @@ pub record IsExact (status : Status) (r : Run) : Type 0 where
       → HasRead (length_request o steps) r.before.held c files
       → AreAccepted c files (questions_in (length_request o steps) c) → comes_judged status ≡ true
   -- and where some run up to the last cycle of the base violates a check of one cycle, it fails
-  pub length_fails : (o : Options) (steps : ℕ) (c : Config) (files : List (List ℕ)) (x : Check) → AsksLengths r o steps
+  pub length_fails : (o : Options) (steps : ℕ) (c : Config) (files : List (List ℕ)) (x : Check)
+      → AsksLengths r o steps
       → HasRead (length_request o steps) r.before.held c files
       → AreAccepted c files (questions_in (length_request o steps) c) → Contains (checks_of c) x
       → is_of_one_cycle x.kind ≡ true → ViolatesWithin c files (questions_in (length_request o steps) c) steps x

@@ -1,5 +1,5 @@
 -- What the two halves of an induction on a net come to, said of its design.
-use Rattle.std.specs.Prelude.{◌≡◌, ℕ, ◌+◌, ◌<◌, ◌≤◌, ◌^◌, Bool, true, false, List, Result, IfOk, length, map, sum}
+use Rattle.std.specs.Prelude.{◌≡◌, ℕ, ◌+◌, ◌≤◌, Bool, true, false, List, Result, IfOk, length, map, sum}
 use Rattle.std.proofs.Common.{ap, refl, sym, ◌∙◌, arith, subst}
 use Rattle.fv_text.specs.declared.memory.Memory.{Memory}
 use Rattle.rv_table.specs.declared.retire.Opts.{Opts}

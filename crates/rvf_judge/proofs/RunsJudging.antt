@@ -1,5 +1,5 @@
 -- Where parts have the same maps and the same declarations, the one has one run for each choice where the other has.
-use Rattle.std.specs.Prelude.{◌≡◌, refl, ℕ, ◌≤◌, Bool, not, ◌&&◌, ◌==◌, List, [], ◌∷◌, is_none}
+use Rattle.std.specs.Prelude.{◌≡◌, refl, ℕ, Bool, not, ◌&&◌, ◌==◌, List, [], ◌∷◌, is_none}
 use Rattle.std.proofs.Common.{subst, sym}
 use Rattle.vl_size.specs.declared.decl.Class.{Class}
 use Rattle.vl_size.specs.declared.decl.Class.TheVariants as class

@@ -1,7 +1,6 @@
 -- Parts with the same maps and the same declarations have the same inductions.
-use Rattle.std.specs.Prelude.{◌≡◌, ◌↔◌, ℕ, ◌+◌, ◌≤◌, Bool, true, false, List, [], ◌∷◌, take}
-use Rattle.std.proofs.Common.{ap, sym, ◌∙◌, subst}
-use Rattle.rv_table.specs.declared.retire.Opts.{Opts}
+use Rattle.std.specs.Prelude.{◌≡◌, ◌↔◌, ℕ, ◌+◌, Bool, true, false, List, [], ◌∷◌, take}
+use Rattle.std.proofs.Common.{ap, sym, ◌∙◌}
 use Rattle.vl_size.specs.declared.decl.Decl.{Decl}
 use Rattle.vl_size.specs.Size.{Values}
 use Rattle.vl_mean.specs.FlatParts.{flat_parts}
@@ -13,8 +12,6 @@ use Rattle.ck_induct.specs.Steps.{FailsAt, IsStepRun}
 use Rattle.vl_lower_spec.proofs.Declaring.{parts_declare}
 use Rattle.cnf_form.specs.Cnf.{Cnf}
 use Rattle.lrat_check.specs.declared.step.Step.{Step}
-use Rattle.rvfi_port.specs.declared.port.Wants.{Wants}
-use Rattle.ck_cfg.specs.declared.check.Check.{Check}
 use Rattle.ck_gen.specs.Monitors.{is_of_one_cycle}
 use Rattle.ck_design.specs.declared.note.Note.{Note}
 use Rattle.ck_induct.specs.Halves.{AreClausesOf, AreMapsOn, LacksLast, LacksWithin}

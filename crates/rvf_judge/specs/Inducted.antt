@@ -30,7 +30,8 @@ use Rattle.rvf_judge.specs.Judged.{AreTexts, Fits, SayBoth}
 -- The texts hold clauses whose models are the lists of the kind, seen at the notes, with a last one that demands a
 -- sought list, and steps that refute them, of which more is known; none stands behind the empty clause. The files are
 -- read back as they were meant.
-pub record IsRefuted (IsOne IsSought : List Values → Type 0) (more : ℕ → Cnf → List Step → Type 0) (budget : ℕ)
+pub record IsRefuted (IsOne IsSought : List Values → Type 0) (more : ℕ → Cnf → List Step → Type 0)
+    (budget : ℕ)
     (texts : CertificateTexts) : Type 0 where
   pub notes : List Note
   pub formula : Cnf
@@ -42,10 +43,11 @@ pub record IsRefuted (IsOne IsSought : List Values → Type 0) (more : ℕ → C
   pub known : more budget formula steps
   pub read_back : Fits formula → SayBoth formula steps texts
 
--- The budget is used up. The texts hold such clauses, and steps that derive from them as many clauses as the budget, each
--- a resolvent of its hints and new to unit propagation, none of them empty; this takes so many variables. The files are
+-- The budget is used up. The texts hold such clauses, and steps that derive from them as many clauses as the budget,
+-- each a resolvent of its hints and new to unit propagation, none of them empty; this takes so many variables. The files are
 -- read back as they were meant.
-pub record IsExhausted (IsOne IsSought : List Values → Type 0) (budget : ℕ) (texts : CertificateTexts) : Type 0 where
+pub record IsExhausted (IsOne IsSought : List Values → Type 0) (budget : ℕ) (texts : CertificateTexts)
+    : Type 0 where
   pub notes : List Note
   pub formula : Cnf
   pub steps : List Step

@@ -31,8 +31,8 @@ pub(crate) struct LearntClauses {
 }
 
 impl LearntClauses {
-    /// For a formula of so many clauses. As many learnt ones are held at first: where a third of them was, formulas of a
-    /// big memory lost what they needed, and took twenty times as long.
+    /// For a formula of so many clauses. As many learnt ones are held at first: with a third of them, formulas of a big
+    /// memory lost what they needed, and took twenty times as long.
     pub(crate) fn new(alloc: Global, first: usize) -> LearntClauses {
         LearntClauses {
             alloc,

@@ -65,9 +65,9 @@ module _ (i : ℕ) (needs : List Step) (xs : List Footprint) where
   abbrev InRow : List ℕ → Visit → ℕ → ℕ → Type 0
   InRow row v a b = (a ≡ i) × ((m : ℕ) × (slice_get row m ≡ Some b)) × Drives needs xs v b
 
-  pub no_entry : (g : List (List ℕ)) (row : List ℕ) (v : Visit) → AddsRow i needs xs row 0 v g g
-  no_entry g row v = record {
-    grows = grows_none (InRow row v) g;
+  pub no_driver : (g : List (List ℕ)) (drivers : List ℕ) (v : Visit) → AddsRow i needs xs drivers 0 v g g
+  no_driver g drivers v = record {
+    grows = grows_none (InRow drivers v) g;
     all = λ m j y cell bit less at is from before needed driven. absurd (omega (arith, less));
   }
 

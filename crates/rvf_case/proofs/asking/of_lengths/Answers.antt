@@ -1,4 +1,3 @@
-use Rattle.std.proofs.Common.{◌∙◌, ap, ◌++◌}
 use Rattle.rvf_case.proofs.Lengths.{length_step}
 use Rattle.rvf_case.proofs.asking.of_lengths.Goals as goal
 

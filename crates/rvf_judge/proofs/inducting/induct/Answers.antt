@@ -1,7 +1,5 @@
-use Rattle.std.proofs.Common.{sym, ◌∙◌, subst}
-use Rattle.wn_net.specs.Net.{Netlist}
+use Rattle.std.proofs.Common.{sym, ◌∙◌}
 use Rattle.wn_net.proofs.Laws.{names_on}
-use Rattle.ck_gen.specs.Monitors.{NeedsNoRegisters, is_of_one_cycle}
 use Rattle.rvf_judge.proofs.HalvesTold.{induct_answer, induct_skipped, of_each, room_left}
 use Rattle.rvf_judge.proofs.inducting.induct.Goals as goal
 
