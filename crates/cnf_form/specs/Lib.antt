@@ -1,1 +1,2 @@
 pub mod Cnf
+pub mod Flat

@@ -2,6 +2,7 @@ ghost use Rattle.std.specs.Prelude.{
   ◌≡◌,
   ℕ,
   ◌<◌,
+  ◌≤◌,
   ◌^◌,
   [],
   ◌∷◌,
@@ -18,7 +19,8 @@ ghost use Rattle.std.specs.Prelude.{IsTrue, ◌↔◌};
 ghost use Rattle.std.specs.Option.{option_copied};
 ghost use Rattle.cnf_form.specs.Cnf.{Cnf, IsLiteral, AreLiterals, AreClauses};
 
-use fv_text::{List, Memory};
+use crate::flat::{part_at, push_starts};
+use fv_text::Memory;
 use std::alloc::Global;
 use std::marker::Model;
 
@@ -28,20 +30,24 @@ use std::marker::Model;
 /// with variables from 1 on, as in DIMACS.
 #[derive(Debug, Drop)]
 pub struct Formula {
-    alloc: Global,
     vars: u64,
-    clauses: List<List<i64>>,
+    /// The literals of all clauses, one clause behind the other.
+    literals: Vec<i64>,
+    /// Where each clause begins among them. It ends where the next one begins.
+    starts: Vec<u32>,
 }
 
 impl Model for Formula {
-    ghost use Rattle.std.specs.Prelude.{◌<◌, ◌^◌};
+    ghost use Rattle.std.specs.Prelude.{◌<◌, ◌^◌, length};
     ghost use Rattle.cnf_form.specs.Cnf.{Cnf, AreClauses};
+    ghost use Rattle.cnf_form.specs.Flat.{Fills, clauses_from};
 
     ghost Value = { Cnf };
 
-    ghost view = { λ f. record { vars = f.vars; clauses = f.clauses } };
+    ghost view = { λ f. record { vars = f.vars; clauses = clauses_from f.literals.items f.starts.items } };
 
-    ghost invariant = { λ f. (f.vars < 2 ^ 63) × AreClauses f.vars f.clauses };
+    ghost invariant = { λ f. (f.vars < 2 ^ 63) × AreClauses f.vars (clauses_from f.literals.items f.starts.items)
+        × Fills f.starts.items (length f.literals.items) };
 }
 
 impl Formula {
@@ -52,21 +58,44 @@ impl Formula {
         ensures clauses { result.clauses ≡ [] }
     {
         Formula {
-            alloc,
             vars,
-            clauses: List::new(alloc),
+            literals: Vec::new(alloc),
+            starts: Vec::new(alloc),
         }
     }
 
-    /// Adds a clause behind the others.
+    /// Adds a clause behind the others. The literals before it are fewer than `2^32`; more are taken as want of memory,
+    /// after which all is as before.
     pub fn push(&mut self, lits: &[i64]) -> Result<(), Memory>
         requires { AreLiterals self.old.vars lits.now }
         ensures ok { OnOk result (self.new.clauses ≡ self.old.clauses ++ lits.now ∷ []) }
         ensures vars { self.new.vars ≡ self.old.vars }
         ensures err { OnErr result (self.new ≡ self.old) }
     {
-        let clause = List::from_vec(Vec::from_slice(self.alloc, lits)?);
-        self.clauses.push(clause)?;
+        let Ok(start) = u32::try_from(self.literals.len()) else {
+            return Err(Memory);
+        };
+        self.starts.reserve(1)?;
+        self.literals.extend_from_slice(lits)?;
+        self.starts.push_reserved(start);
+        Ok(())
+    }
+
+    /// Adds all clauses of another formula behind the others, in one go. Its literals, and those that stand before them,
+    /// are fewer than `2^32`; more are taken as want of memory, after which all is as before.
+    pub fn push_all(&mut self, other: &Formula) -> Result<(), Memory>
+        requires { other.now.vars ≤ self.old.vars }
+        ensures ok { OnOk result (self.new.clauses ≡ self.old.clauses ++ other.now.clauses) }
+        ensures vars { self.new.vars ≡ self.old.vars }
+        ensures err { OnErr result (self.new ≡ self.old) }
+    {
+        let end = self.literals.len();
+        if end.saturating_add(other.literals.len()) > u32::MAX as usize {
+            return Err(Memory);
+        }
+        self.starts.reserve(other.starts.len())?;
+        self.literals.extend_from_slice(&other.literals)?;
+        push_starts(&mut self.starts, &other.starts, end);
         Ok(())
     }
 
@@ -84,13 +113,13 @@ impl Formula {
         ensures small { result < 2 ^ 63 }
         ensures literals { AreClauses self.now.vars self.now.clauses }
     {
-        self.clauses.as_slice().len()
+        self.starts.len()
     }
 
     pub fn is_empty(&self) -> bool
         ensures { IsTrue result ↔ (self.now.clauses ≡ []) }
     {
-        self.clauses.is_empty()
+        self.len() == 0
     }
 
     /// The clause at the place, from 0 on. None exactly where the index isn't below the length.
@@ -98,10 +127,7 @@ impl Formula {
         ensures value { option_copied result ≡ slice_get self.now.clauses index }
         ensures literals { IfSome result (λ lits. AreLiterals self.now.vars lits.now) }
     {
-        match self.clauses.get(index) {
-            Some(clause) => Some(clause.as_slice()),
-            None => None,
-        }
+        part_at(&self.literals, &self.starts, index)
     }
 }
 

@@ -6,35 +6,9 @@ use Rattle.std.specs.List.{copy_within}
 use Rattle.std.proofs.lemmas.List.{append_assoc, append-nil, drop-drop, drop_more}
 use Rattle.std.proofs.Math.ListN.{drop_of_length-le}
 use Rattle.std.proofs.lemmas.List.Edits.{take-paste, drop-paste, length-paste}
-use Rattle.lrat_check.specs.Store.{number_at, start_of, end_at, Mounting, marked, packed_starts, packed}
-use Rattle.lrat_check.proofs.Packing.{up}
-
--- the clauses from a place on begin where the one at the place does
-pub start_at : (starts : List ℕ) (i end : ℕ) → i < length starts
-    → start_of (drop i starts) end ≡ number_at starts i
-start_at starts i end h = ap (λ z. start_of z end) (drop_more starts i 0 h)
-
--- and those behind it begin where it ends
-pub start_behind : (starts : List ℕ) (i end : ℕ) → i < length starts
-    → end_at starts i end ≡ start_of (drop (i + 1) starts) end
-start_behind [] i end h = absurd (omega (arith, h))
-start_behind (s ∷ starts) zero end h = refl
-start_behind (s ∷ starts) (suc i) end h =
-    let e : suc (i + 1) ≡ suc i + 1 = omega arith in
-    start_behind starts i end (omega (arith, h)) ∙ ap (λ z. start_of (drop z (s ∷ starts)) end) e
-
-pub mounting_at : (starts : List ℕ) (i end : ℕ) → Mounting starts end → Mounting (drop i starts) end
-mounting_at starts zero end m = m
-mounting_at [] (suc i) end m = tt
-mounting_at (s ∷ starts) (suc i) end m = mounting_at starts i end m.1
-
-pub part_mounts : (starts : List ℕ) (i end : ℕ) → Mounting starts end → i < length starts
-    → (number_at starts i ≤ end_at starts i end) × (end_at starts i end ≤ end)
-part_mounts starts i end m h =
-    let a : Mounting (number_at starts i ∷ drop (i + 1) starts) end =
-    subst (λ z. Mounting z end) (drop_more starts i 0 h) (mounting_at starts i end m) in
-    let u = up (drop (i + 1) starts) end a.1 in
-    let e = start_behind starts i end h in (omega (arith, a.0, e), omega (arith, u, e))
+use Rattle.cnf_form.specs.Flat.{start_of, end_at, Mounting}
+use Rattle.cnf_form.proofs.Starts.{up, start_at, start_behind, part_mounts}
+use Rattle.lrat_check.specs.Store.{number_at, marked, packed_starts, packed}
 
 -- so far the codes of the clauses before a place were moved to the front, and those from there on are as they were
 abbrev pub Packs : List ℕ → List ℕ → List Bool → ℕ → ℕ → List ℕ → Type 0

@@ -7,7 +7,9 @@ use Rattle.std.proofs.lemmas.Bool.{cases_eq}
 use Rattle.std.proofs.lemmas.List.{append_assoc, length-replicate, take_at, drop_at}
 use Rattle.std.proofs.lemmas.List.Edits.{length-between}
 use mathlib.Core.Path.{fun_ext}
-use Rattle.lrat_check.specs.Store.{Span, part, found, span_at, start_of, spans, Mounting, Laid, Lies}
+use Rattle.cnf_form.specs.Flat.{start_of, Mounting}
+use Rattle.cnf_form.proofs.Starts.{up}
+use Rattle.lrat_check.specs.Store.{Span, part, found, span_at, spans, Laid, Lies}
 use Rattle.lrat_check.specs.Store.{marked, packed_starts, packed}
 use Rattle.lrat_check.proofs.Spans.{eq_self, eq_apart, found_none}
 use Rattle.lrat_check.proofs.Rows.{mounts, mounts_from, rest}
@@ -69,11 +71,6 @@ module _ (span : Span) (spans : List Span) (at low end next : ℕ) (f : Follow s
       };
       above = above_at;
     }
-
--- where clauses begin is no further than where they end
-pub up : (starts : List ℕ) (end : ℕ) → Mounting starts end → start_of starts end ≤ end
-up [] end m = omega arith
-up (s ∷ starts) end m = omega (arith, m.0, up starts end m.1)
 
 follows : (ids starts : List ℕ) (held : List Bool) (low end next : ℕ) → Ordered low ids next → Mounting starts end
     → Follow (spans ids starts held end) (start_of starts end) low end next

@@ -4,7 +4,8 @@ use Rattle.std.proofs.Common.{refl, ap, sym, subst, ◌∙◌, arith}
 use Rattle.std.specs.Prelude.{slice_range}
 use Rattle.std.specs.List.{swap}
 use Rattle.std.proofs.lemmas.List.Edits.{length-swap}
-use Rattle.lrat_check.specs.Store.{Span, Coded, part, found, number_at, end_at, span_at, spans, with_code, NoId}
+use Rattle.cnf_form.specs.Flat.{end_at}
+use Rattle.lrat_check.specs.Store.{Span, Coded, part, found, number_at, span_at, spans, with_code, NoId}
 use Rattle.lrat_check.specs.Store.{IsId, Lies, Removes}
 use Rattle.lrat_check.proofs.Spans.{found_at, found_none, in_range, swapped, removes}
 use Rattle.lrat_check.proofs.Rows.{span_of, spans_set, at, is_span, no_span}

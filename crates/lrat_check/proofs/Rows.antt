@@ -2,7 +2,9 @@
 use Rattle.std.proofs.Common.{◌≡◌, ℕ, zero, suc, ◌+◌, ◌<◌, ◌≤◌, Bool, true, false, List, [], ◌∷◌, ◌++◌, length}
 use Rattle.std.proofs.Common.{get_or, set, refl, ap, sym, subst, ◌∙◌, arith, length-append, length-set}
 use Rattle.std.proofs.lemmas.List.{length_push}
-use Rattle.lrat_check.specs.Store.{Span, number_at, span_at, start_of, end_at, spans, Rising, Mounting}
+use Rattle.cnf_form.specs.Flat.{start_of, end_at, Mounting}
+use Rattle.cnf_form.proofs.Starts.{start_push}
+use Rattle.lrat_check.specs.Store.{Span, number_at, span_at, spans, Rising}
 use Rattle.lrat_check.specs.Store.{NoId, IsId, NoSpan, IsSpan, Laid, Lies, found, with_code}
 use Rattle.lrat_check.proofs.Spans.{laid_push, laid_set, pushed}
 
@@ -14,23 +16,6 @@ spread ids i zero k r e l = let q : i ≡ k = omega (arith, e) in
 spread ids i (suc d) k r e l =
     let m : number_at ids i + d ≤ number_at ids (i + d) = spread ids i d (i + d) r refl (omega (arith, e, l)) in
     let n : number_at ids (i + d) < number_at ids k = r (i + d) k (omega (arith, e)) l in omega (arith, m, n)
-
--- the last clause ends where all do
-pub end_last : (starts : List ℕ) (place end : ℕ) → length starts ≤ place + 1 → end_at starts place end ≡ end
-end_last [] place end h = refl
-end_last (s ∷ []) zero end h = refl
-end_last (s ∷ next ∷ starts) zero end h = absurd (omega (arith, h))
-end_last (s ∷ starts) (suc place) end h = end_last starts place end (omega (arith, h))
-
--- another one ends where the next one begins
-pub end_next : (starts : List ℕ) (place end : ℕ) → place + 1 < length starts
-    → end_at starts place end ≡ number_at starts (place + 1)
-end_next [] place end h = absurd (omega (arith, h))
-end_next (s ∷ []) zero end h = absurd (omega (arith, h))
-end_next (s ∷ next ∷ starts) zero end h = refl
-end_next (s ∷ starts) (suc place) end h =
-    let e : suc (place + 1) ≡ suc place + 1 = omega arith in
-    end_next starts place end (omega (arith, h)) ∙ ap (number_at (s ∷ starts)) e
 
 pub spans_long : (ids starts : List ℕ) (held : List Bool) (end : ℕ) → length starts ≡ length ids
     → length held ≡ length ids → length (spans ids starts held end) ≡ length ids
@@ -59,10 +44,6 @@ spans_at (id ∷ ids) (s ∷ starts) [] end k b m h = absurd (omega (arith, m))
 spans_at (id ∷ ids) (s ∷ starts) (h ∷ held) end zero b m l = refl
 spans_at (id ∷ ids) (s ∷ starts) (h ∷ held) end (suc k) b m l =
     spans_at ids starts held end k (omega (arith, b)) (omega (arith, m)) (omega (arith, l))
-
-start_push : (starts : List ℕ) (s more : ℕ) → start_of (starts ++ s ∷ []) more ≡ start_of starts s
-start_push [] s more = refl
-start_push (t ∷ starts) s more = refl
 
 -- one clause more, which begins where all before it end
 pub spans_push : (ids starts : List ℕ) (held : List Bool) (id s more : ℕ) → length starts ≡ length ids

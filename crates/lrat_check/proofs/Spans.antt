@@ -9,6 +9,7 @@ use Rattle.std.proofs.lemmas.List.{ext_get_or, drop-append-le, take-append-le, d
 use Rattle.std.proofs.lemmas.List.{get_or_push, get_or-set_same, get_or-set_other, length-set, length_push}
 use Rattle.std.proofs.lemmas.List.Edits.{swapped_from_swap, length-swap, length-between, get_or-between}
 use mathlib.Core.Path.{fun_ext}
+use Rattle.cnf_form.proofs.Parts.{part_kept, part_last}
 use Rattle.lrat_check.specs.Store.{Span, Coded, part, found, span_at, with_code, without_code, Climbing, Laid, NoSpan}
 use Rattle.lrat_check.specs.Store.{IsSpan, Removes}
 
@@ -65,19 +66,6 @@ same_place spans k j id r h m = elim (cases_eq k j) [
     | inr q ↦ absurd (omega (arith, r j k (omega (arith, ltb_false k j q, n)) h.0, h.1, m.1))
   ]
 ]
-
--- parts of a list that grows
-pub part_kept : (all more : List ℕ) (s e : ℕ) → s ≤ e → e ≤ length all
-    → slice_range (all ++ more) s e ≡ slice_range all s e
-part_kept all more s e l m =
-    ap (take (e - s)) (drop-append-le s all more (omega (arith, l, m)))
-    ∙ take-append-le (e - s) (drop s all) more (omega (arith, length-drop s all, l, m))
-
-pub part_last : (all more : List ℕ) (s e : ℕ) → s ≡ length all → e ≡ length (all ++ more)
-    → slice_range (all ++ more) s e ≡ more
-part_last all more s e l m =
-    ap (take (e - s)) (drop_at all more s (sym l))
-    ∙ take_all (e - s) more (omega (arith, l, m, length-append all more))
 
 module _ (all more : List ℕ) (r : Span) (held : r.held ≡ true)
     (is : slice_range (all ++ more) r.start r.end ≡ more) where

@@ -20,6 +20,7 @@ use Rattle.std.specs.Prelude.{
   length,
 }
 use Rattle.std.specs.Prelude.{slice_range, slice_index_or, Option, Some, None, IsSome, MatchBool, Result, Ok, Err}
+use Rattle.cnf_form.specs.Flat.{start_of, end_at, Mounting}
 use Rattle.lrat_check.specs.declared.step.StepFault.{StepFault}
 use Rattle.lrat_check.specs.declared.step.StepFault.TheVariants.{Memory}
 use Rattle.lrat_check.specs.Answers.{OrMemory}
@@ -79,17 +80,6 @@ number_at numbers place = slice_index_or numbers place 0
 abbrev pub span_at : List Span → ℕ → Span
 span_at spans place = slice_index_or spans place (record { id = 0; start = 0; end = 0; held = false })
 
--- where the first clause begins; without one, where all end
-abbrev pub start_of : List ℕ → ℕ → ℕ
-start_of [] end = end
-start_of (start ∷ starts) end = start
-
--- where the clause at the place ends: where the next one begins, or where all end
-abbrev pub end_at : List ℕ → ℕ → ℕ → ℕ
-end_at [] place end = end
-end_at (start ∷ starts) zero end = start_of starts end
-end_at (start ∷ starts) (suc place) end = end_at starts place end
-
 -- where the clauses of the ids lie, each of which is held or not
 abbrev pub spans : List ℕ → List ℕ → List Bool → ℕ → List Span
 spans [] starts held end = []
@@ -101,11 +91,6 @@ spans (id ∷ ids) (start ∷ starts) (is_held ∷ held) end =
 -- ids rise
 abbrev pub Rising : List ℕ → Type 0
 Rising ids = (i k : ℕ) → i < k → k < length ids → number_at ids i < number_at ids k
-
--- each clause begins at or before the next one, and where all end
-abbrev pub Mounting : List ℕ → ℕ → Type 0
-Mounting [] end = Unit {0}
-Mounting (start ∷ starts) end = (start ≤ start_of starts end) × Mounting starts end
 
 -- ids rise
 abbrev pub Climbing : List Span → Type 0

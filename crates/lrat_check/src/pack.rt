@@ -1,21 +1,10 @@
 ghost use Rattle.std.specs.Prelude.{◌≡◌, ◌<◌, length, IfOk};
-ghost use Rattle.lrat_check.specs.Store.{end_at, packed, packed_starts, Mounting};
+ghost use Rattle.cnf_form.specs.Flat.{end_at, Mounting};
+ghost use Rattle.lrat_check.specs.Store.{packed, packed_starts};
 
+use cnf_form::end_of;
 use fv_text::Memory;
 use std::alloc::Global;
-
-/// Where the clause at the place ends, if all end there.
-pub(crate) fn end_of(starts: &[u32], place: usize, end: usize) -> usize
-    requires { place < length starts.now }
-    ensures { result ≡ end_at starts.now place end }
-{
-    let next = place + 1;
-    if next < starts.len() {
-        starts[next] as usize
-    } else {
-        end
-    }
-}
 
 /// Where the held clauses begin once they lie one behind the other, if all end there.
 pub(crate) fn packed_starts(

@@ -21,8 +21,9 @@ ghost use Rattle.lrat_check.specs.Sets.{AreLits};
 
 use crate::code::code_of;
 use crate::ids::Ids;
-use crate::pack::{end_of, pack_codes, packed_starts};
+use crate::pack::{pack_codes, packed_starts};
 use crate::room::make_room;
+use cnf_form::end_of;
 use fv_text::Memory;
 use std::alloc::Global;
 use std::marker::Model;

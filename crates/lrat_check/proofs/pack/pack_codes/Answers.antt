@@ -1,7 +1,9 @@
 use Rattle.std.proofs.Common.{◌≡◌, ◌+◌, ◌-◌, ◌<◌, length, ap, sym, subst, ◌∙◌, arith}
 use Rattle.std.specs.List.{copy_within}
-use Rattle.lrat_check.specs.Store.{number_at, end_at}
-use Rattle.lrat_check.proofs.Moving.{Packs, part_mounts, room, passes, moves}
+use Rattle.cnf_form.specs.Flat.{end_at}
+use Rattle.cnf_form.proofs.Starts.{part_mounts}
+use Rattle.lrat_check.specs.Store.{number_at}
+use Rattle.lrat_check.proofs.Moving.{Packs, room, passes, moves}
 use Rattle.lrat_check.proofs.pack.pack_codes.Goals as goal
 use Rattle.lrat_check.proofs.pack.pack_codes.Goals.{then-is_held, else-is_held}
 

@@ -1,6 +1,8 @@
 use Rattle.std.proofs.Common.{◌≡◌, ◌+◌, ◌-◌, ◌<◌, ◌++◌, ◌∷◌, [], length, ap, sym, subst, ◌∙◌, arith}
-use Rattle.lrat_check.specs.Store.{number_at, end_at}
-use Rattle.lrat_check.proofs.Moving.{Begins, part_mounts, first, begins_past, begins_on}
+use Rattle.cnf_form.specs.Flat.{end_at}
+use Rattle.cnf_form.proofs.Starts.{part_mounts}
+use Rattle.lrat_check.specs.Store.{number_at}
+use Rattle.lrat_check.proofs.Moving.{Begins, first, begins_past, begins_on}
 use Rattle.lrat_check.proofs.pack.packed_starts.Goals as goal
 use Rattle.lrat_check.proofs.pack.packed_starts.Goals.{then-is_held+in_ok-push, else-is_held}
 

@@ -1,7 +1,8 @@
 use Rattle.std.proofs.Common.{◌≡◌, true, false, length, Some, ap, sym, ◌∙◌, arith}
 use Rattle.std.specs.Prelude.{slice_range}
 use Rattle.std.proofs.lemmas.List.{get_or_read}
-use Rattle.lrat_check.specs.Store.{coded, above, number_at, end_at}
+use Rattle.cnf_form.specs.Flat.{end_at}
+use Rattle.lrat_check.specs.Store.{coded, above, number_at}
 use Rattle.lrat_check.proofs.Rows.{rises, bounds}
 use Rattle.lrat_check.proofs.Placed.{holds, holds_none}
 use Rattle.lrat_check.proofs.store.Store.lits.Goals as goal

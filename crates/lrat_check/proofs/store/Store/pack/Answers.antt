@@ -1,5 +1,6 @@
 use Rattle.std.proofs.Common.{◌≡◌, true, length, replicate, subst, sym, ap, ◌∙◌}
-use Rattle.lrat_check.specs.Store.{coded, above, marked, packed, packed_starts, Mounting}
+use Rattle.cnf_form.specs.Flat.{Mounting}
+use Rattle.lrat_check.specs.Store.{coded, above, marked, packed, packed_starts}
 use Rattle.lrat_check.proofs.Rows.{mounts}
 use Rattle.lrat_check.proofs.Packing.{lies_packed, same_packed}
 use Rattle.lrat_check.proofs.store.Store.pack.Goals as goal

@@ -1,6 +1,7 @@
 use Rattle.std.proofs.Common.{◌≡◌, true, false, length, ap, sym, ◌∙◌, arith}
 use Rattle.std.proofs.lemmas.List.{get_or_read}
-use Rattle.lrat_check.specs.Store.{coded, above, number_at, end_at}
+use Rattle.cnf_form.specs.Flat.{end_at}
+use Rattle.lrat_check.specs.Store.{coded, above, number_at}
 use Rattle.lrat_check.proofs.Rows.{rises, bounds, lies_set}
 use Rattle.lrat_check.proofs.Placed.{holds, holds_none, removed}
 use Rattle.lrat_check.proofs.store.Store.remove.Goals as goal

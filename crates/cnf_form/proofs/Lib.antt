@@ -1,0 +1,4 @@
+pub mod Starts
+pub mod Parts
+mod Pushed
+mod Joined
