@@ -20,7 +20,7 @@ use Rattle.wn_net.proofs.Laws.{adds_on, value_on, given_on}
 use Rattle.vl_lower_assign.specs.declared.slot.Holder.{Holder}
 use Rattle.vl_lower_assign.specs.declared.slot.Holder.TheVariants as holder
 use Rattle.vl_lower_assign.specs.declared.slot.Slot.{Slot}
-use Rattle.wn_net.specs.declared.parts.MemWrite.{MemWrite}
+use Rattle.vl_lower_assign.specs.declared.track.WordsWrite.{WordsWrite}
 use Rattle.vl_lower_assign.specs.Slots.{IsPath, Stores, Writes, is_taken, is_among}
 use Rattle.vl_lower_assign.specs.Tracks.{FollowWrite}
 use Rattle.vl_lower_assign.proofs.Memories.{tracks_on, tracks_written}
@@ -31,7 +31,7 @@ use Rattle.vl_lower_assign.specs.Frames.{AreSlotsOf, Assigns, with_writes}
 use Rattle.vl_lower_assign.specs.Logs.{noted_of, IsWithin}
 use Rattle.vl_lower_assign.proofs.Behind.{cells_on, nodes_on, met_on, met_back, stand_on}
 use Rattle.vl_lower_assign.proofs.Logging.{back_append, DifferIn, noted_back}
-use Rattle.vl_lower_assign.proofs.Standing.{are_cells, slot_in, slot_for_on, slot_on, cells_written, stand_written}
+use Rattle.vl_lower_assign.proofs.Standing.{are_cells, slot_on, cells_written, stand_written}
 
 -- ---- the log
 
@@ -137,8 +137,8 @@ module _ (ds : List Decl) (path : Option ℕ) (slot : Slot) (value : ℕ) where
           assumed = subst P (sym same) (nodes_on old new f.assumed adds own.assumed);
           tracks =
               let cells = cells_on old c ds f.next first own.next in
-              tracks_written c new f.next h.next path slot value None (are_cells c ds f.next cells) two tt
-              (slot_in c ds f.next slot cells (slot_for_on old c ds slot first fits)).held f.tracks h.tracks follow
+              tracks_written c new f.next h.next path slot value None (are_cells c ds f.next cells) two tt f.tracks
+              h.tracks follow
               (tracks_on old c f.next f.tracks first (are_cells old ds f.next own.next) own.tracks);
         };
         back =
@@ -170,7 +170,7 @@ module _ (ds : List Decl) (path : Option ℕ) (slot : Slot) (value : ℕ) where
       }
 
   -- for the next cycle alone
-  pub assigned_next : (old new : Netlist) (f h : Cells) (made : Option MemWrite) → IsFrame old ds f
+  pub assigned_next : (old new : Netlist) (f h : Cells) (made : Option WordsWrite) → IsFrame old ds f
       → IsSlotFor old ds slot → Writes old new f.next h.next path slot value
       → IfSome made (Stores old new f.next h.next slot.width slot.holder)
       → FollowWrite slot.holder made f.tracks h.tracks
@@ -188,7 +188,7 @@ module _ (ds : List Decl) (path : Option ℕ) (slot : Slot) (value : ℕ) where
           assumed = subst P (sym same) (nodes_on old new f.assumed adds own.assumed);
           tracks =
               tracks_written old new f.next h.next path slot value made (are_cells old ds f.next own.next) one stores
-              (slot_in old ds f.next slot own.next fits).held f.tracks h.tracks follow own.tracks;
+              f.tracks h.tracks follow own.tracks;
         };
         back = (λ i. taken_back (log i) (now i));
         comes = λ g t w bits given has slots.

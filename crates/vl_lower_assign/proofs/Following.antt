@@ -6,6 +6,7 @@ use Rattle.std.proofs.lemmas.Bool.Decides.{nat_tests}
 use Rattle.std.proofs.lemmas.List.{get_or-set_same, get_or-set_other, length-set}
 use Rattle.wn_net.specs.declared.parts.MemWrite.{MemWrite}
 use Rattle.vl_lower_assign.specs.declared.track.Track.{Track}
+use Rattle.vl_lower_assign.specs.declared.track.WordsWrite.{WordsWrite}
 use Rattle.vl_lower_assign.specs.Tracks.{AreApart, AreOff, FollowAll, Follows, IsOneMore, no_track, track_at}
 
 known_or : (o : Option (List MemWrite)) (X : Type 0) (M : List MemWrite → Type 0) → X
@@ -14,7 +15,7 @@ known_or None X M x = tt
 known_or (Some ws) X M x = inl (refl, x)
 
 -- a memory of which no cell is written
-unchanged : (first count : ℕ) (made : Option MemWrite) (t : Track) → AreOff first count t.first t.count
+unchanged : (first count : ℕ) (made : Option WordsWrite) (t : Track) → AreOff first count t.first t.count
     → Follows first count made t t
 unchanged first count made t off = record {
   first_is = refl;
@@ -23,14 +24,14 @@ unchanged first count made t off = record {
 }
 
 -- one whose writes are given up
-gone : (first count : ℕ) (made : Option MemWrite) (t u : Track) → u.first ≡ t.first → u.count ≡ t.count
+gone : (first count : ℕ) (made : Option WordsWrite) (t u : Track) → u.first ≡ t.first → u.count ≡ t.count
     → u.writes ≡ None → Follows first count made t u
 gone first count made t u f c none = record {
   first_is = f;
   count_is = c;
   writes =
       subst (λ (o : Option (List MemWrite)). IfSome o (λ ws. ((t.writes ≡ Some ws) × AreOff first count t.first t.count)
-      ⊎ IsOneMore first count made t ws)) (sym none) tt;
+      ⊎ IsOneMore made t ws)) (sym none) tt;
 }
 
 -- none of the others has a cell from the first of the last one that begins in front of the end
@@ -59,7 +60,7 @@ same_or_not i last = by (nat_lt i last) refl (nat_lt last i) refl
         let above : i ≤ last = grind (arith, nat_tests, u) in inl (omega (arith, below, above))
 
 -- where the last of them ends in front of the cells
-pub none_met : (first count last : ℕ) (made : Option MemWrite) (ts : List Track) → AreApart ts
+pub none_met : (first count last : ℕ) (made : Option WordsWrite) (ts : List Track) → AreApart ts
     → ((i : ℕ) → last + 1 ≤ i → i < length ts → first + count ≤ (track_at ts i).first)
     → (track_at ts last).first + (track_at ts last).count ≤ first → last < length ts
     → FollowAll first count made ts ts
@@ -75,7 +76,7 @@ none_met first count last made ts apart later ends there = record {
     by i less (inr other) = off_of first count last ts apart later (omega (arith, ends)) there i less other
 
 -- another one in the place of one, and as they were else
-changed_at : (first count last : ℕ) (made : Option MemWrite) (ts : List Track) (u : Track) → AreApart ts
+changed_at : (first count last : ℕ) (made : Option WordsWrite) (ts : List Track) (u : Track) → AreApart ts
     → ((i : ℕ) → i < length ts → (i ≡ last → ⊥) → AreOff first count (track_at ts i).first (track_at ts i).count)
     → last < length ts → Follows first count made (track_at ts last) u
     → FollowAll first count made ts (slice_set ts last u)
@@ -98,7 +99,7 @@ changed_at first count last made ts u apart off there follow = record {
         (unchanged first count made (track_at ts i) (off i less other))
 
 -- the last of them is given up
-pub last_gone : (first count last : ℕ) (made : Option MemWrite) (ts : List Track) (u : Track) → AreApart ts
+pub last_gone : (first count last : ℕ) (made : Option WordsWrite) (ts : List Track) (u : Track) → AreApart ts
     → ((i : ℕ) → last + 1 ≤ i → i < length ts → first + count ≤ (track_at ts i).first)
     → (track_at ts last).first ≤ first → last < length ts → u.first ≡ (track_at ts last).first
     → u.count ≡ (track_at ts last).count → u.writes ≡ None → FollowAll first count made ts (slice_set ts last u)

@@ -7,6 +7,7 @@ pub mod Ranges
 pub mod Written
 pub mod Places
 pub mod Memories
+pub mod WordWrites
 pub mod Following
 pub mod Behind
 pub mod Writing

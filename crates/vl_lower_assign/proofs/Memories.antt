@@ -22,7 +22,8 @@ use Rattle.vl_lower_assign.specs.declared.slot.Holder.{Holder}
 use Rattle.vl_lower_assign.specs.declared.slot.Holder.TheVariants as holder
 use Rattle.vl_lower_assign.specs.declared.slot.Slot.{Slot}
 use Rattle.vl_lower_assign.specs.declared.track.Track.{Track}
-use Rattle.vl_lower_assign.specs.Slots.{AreCells, HoldsCells, Stores, Writes, is_among}
+use Rattle.vl_lower_assign.specs.declared.track.WordsWrite.{WordsWrite}
+use Rattle.vl_lower_assign.specs.Slots.{AreCells, Stores, Writes, is_among}
 use Rattle.vl_lower_assign.specs.Tracks.{AreOff, AreTracks, FollowAll, FollowWrite, IsOneMore, LeadTo, track_at}
 use Rattle.vl_lower_assign.proofs.Places.{word_written}
 
@@ -130,11 +131,11 @@ leads_more old new before after m first count w ws x adds e each wide fits store
 
 -- ---- all of them
 
-if_some : {A : Type 0} {P Q : A → Type 0} (o : Option A) → ((x : A) → P x → Q x) → IfSome o P → IfSome o Q
+pub if_some : {A : Type 0} {P Q : A → Type 0} (o : Option A) → ((x : A) → P x → Q x) → IfSome o P → IfSome o Q
 if_some None f h = h
 if_some (Some x) f h = f x h
 
-known_leads : {A : Type 0} (P : A → Type 0) (o : Option A) (x : A) → o ≡ Some x → IfSome o P → P x
+pub known_leads : {A : Type 0} (P : A → Type 0) (o : Option A) (x : A) → o ≡ Some x → IfSome o P → P x
 known_leads {A = A} P o x e h = subst (λ (u : Option A). IfSome u P) e h
 
 pub no_tracks : (net : Netlist) (cells : List ℕ) → AreTracks net cells []
@@ -153,7 +154,7 @@ tracks_on old new cells ts adds own h = record {
 }
 
 module _ (old new : Netlist) (before after : List ℕ) (path : Option ℕ) (slot : Slot) (value : ℕ)
-    (made : Option MemWrite) (own : AreCells old before) (one : Writes old new before after path slot value) where
+    (made : Option WordsWrite) (own : AreCells old before) (one : Writes old new before after path slot value) where
   -- of which no cell was written
   off_leads : (first count m : ℕ) (t : Track) (ws : List MemWrite)
       → ((i : ℕ) → (i < first) ⊎ (first + count ≤ i) → is_among slot.holder i ≡ false)
@@ -171,7 +172,7 @@ module _ (old new : Netlist) (before after : List ℕ) (path : Option ℕ) (slot
 
   all_follow : (first count : ℕ) (ts us : List Track) → FollowAll first count made ts us
       → ((i : ℕ) → (i < first) ⊎ (first + count ≤ i) → is_among slot.holder i ≡ false)
-      → ((m : ℕ) (t : Track) (ws : List MemWrite) → IsOneMore first count made t ws
+      → ((m : ℕ) (t : Track) (ws : List MemWrite) → IsOneMore made t ws
       → IfSome t.writes (LeadTo old before m t.first t.count) → LeadTo new after m t.first t.count ws)
       → AreTracks old before ts → AreTracks new after us
   all_follow first count ts us follow among more h = record {
@@ -191,53 +192,44 @@ module _ (old new : Netlist) (before after : List ℕ) (path : Option ℕ) (slot
   }
     where
       one_follows : (m : ℕ) (t : Track) (ws : List MemWrite)
-          → ((t.writes ≡ Some ws) × AreOff first count t.first t.count) ⊎ IsOneMore first count made t ws
+          → ((t.writes ≡ Some ws) × AreOff first count t.first t.count) ⊎ IsOneMore made t ws
           → IfSome t.writes (LeadTo old before m t.first t.count) → LeadTo new after m t.first t.count ws
       one_follows m t ws (inl p) own_leads =
           off_leads first count m t ws among p.1
           (known_leads (LeadTo old before m t.first t.count) t.writes ws p.0 own_leads)
       one_follows m t ws (inr p) own_leads = more m t ws p own_leads
 
-  module _ (stores : IfSome made (Stores old new before after slot.width slot.holder))
-      (held : HoldsCells old before slot.width slot.holder) where
-    stored_here : (h : Holder) (x : MemWrite) → slot.holder ≡ h → made ≡ Some x
-        → Stores old new before after slot.width h x
-    stored_here h x e f =
-        subst (λ (k : Holder). Stores old new before after slot.width k x) e
-        (known_leads (Stores old new before after slot.width slot.holder) made x f stores)
-
-    word_more : (first count address : ℕ) → slot.holder ≡ holder.Word first count address → (m : ℕ) (t : Track)
-        (ws : List MemWrite) → IsOneMore first count made t ws
+  module _ (stores : IfSome made (Stores old new before after slot.width slot.holder)) where
+    -- with a write more, to its words
+    more_leads : (m : ℕ) (t : Track) (ws : List MemWrite) → IsOneMore made t ws
         → IfSome t.writes (LeadTo old before m t.first t.count) → LeadTo new after m t.first t.count ws
-    word_more first count address e m t ws p own_leads =
-        let s : Stores old new before after slot.width (holder.Word first count address) p.write =
-        stored_here (holder.Word first count address) p.write e p.made_is in
-        let c : HoldsCells old before slot.width (holder.Word first count address) =
-        subst (HoldsCells old before slot.width) e held in
+    more_leads m t ws p own_leads =
+        let first = p.one.first in
+        let count = p.one.count in
+        let x = p.one.write in
+        let s : Stores old new before after slot.width slot.holder p.one =
+        known_leads (Stores old new before after slot.width slot.holder) made p.one p.made_is stores in
         let was : LeadTo old before m t.first t.count p.before =
         known_leads (LeadTo old before m t.first t.count) t.writes p.before p.known own_leads in
         let h : LeadTo old before m first count p.before =
         subst (λ n. LeadTo old before m first n p.before) p.count_is
         (subst (λ n. LeadTo old before m n t.count p.before) p.first_is was) in
-        let front : first + 0 ≡ first = omega arith in
-        let wide : slot.width ≡ mem_width old m =
-        sym (c.2 0 (omega (arith, c.0))).1 ∙ ap (λ n. width_at old (slice_index before n)) front ∙ h.width in
+        let wide : slot.width ≡ mem_width old m = sym s.wide ∙ h.width in
         let last : width_at new (slice_index after first) ≡ slot.width =
-        (one.alike.node first (omega (arith, h.some, h.within))).1 ∙ h.width ∙ sym wide in
-        let now : LeadTo new after m first count (p.before ++ p.write ∷ []) =
-        leads_more old new before after m first count slot.width p.before p.write one.adds wide one.alike.each last
-        s.0 s.1 h in
+        (one.alike.node first (omega (arith, h.some, h.within))).1 ∙ s.wide in
+        let now : LeadTo new after m first count (p.before ++ x ∷ []) =
+        leads_more old new before after m first count slot.width p.before x one.adds wide one.alike.each last s.fits
+        s.numbers h in
         subst (λ us. LeadTo new after m t.first t.count us) (sym p.all)
-        (subst (λ n. LeadTo new after m t.first n (p.before ++ p.write ∷ [])) (sym p.count_is)
-        (subst (λ n. LeadTo new after m n count (p.before ++ p.write ∷ [])) (sym p.first_is) now))
+        (subst (λ n. LeadTo new after m t.first n (p.before ++ x ∷ [])) (sym p.count_is)
+        (subst (λ n. LeadTo new after m n count (p.before ++ x ∷ [])) (sym p.first_is) now))
 
     follow_by : (h : Holder) → slot.holder ≡ h → (ts us : List Track) → FollowWrite h made ts us
         → AreTracks old before ts → AreTracks new after us
     follow_by (holder.Cell at) e ts us follow own_tracks =
         all_follow at 1 ts us follow
         (λ i off. ap (λ (h : Holder). is_among h i) e ∙ other i off)
-        (λ m t ws p own_leads. absurd (stored_here (holder.Cell at) p.write e p.made_is))
-        own_tracks
+        more_leads own_tracks
       where
         other : (i : ℕ) → (i < at) ⊎ (at + 1 ≤ i) → (i == at) ≡ false
         other i (inl p) = grind (arith, nat_tests, p)
@@ -245,7 +237,7 @@ module _ (old new : Netlist) (before after : List ℕ) (path : Option ℕ) (slot
     follow_by (holder.Word first count address) e ts us follow own_tracks =
         all_follow first count ts us follow
         (λ i off. ap (λ (h : Holder). is_among h i) e ∙ other i off)
-        (word_more first count address e) own_tracks
+        more_leads own_tracks
       where
         other : (i : ℕ) → (i < first) ⊎ (first + count ≤ i) → (nat_le first i && nat_lt i (first + count)) ≡ false
         other i (inl p) =

@@ -7,7 +7,7 @@ use Rattle.wn_net.specs.Value.{Given}
 use Rattle.wn_net.specs.Next.{written}
 use Rattle.wn_net.specs.declared.parts.MemWrite.{MemWrite}
 use Rattle.wn_net.specs.Given.{IsGiven}
-use Rattle.wn_net.specs.Net.{Netlist, IsNode, IsNodeOf, AreNodesOf, IsWriteOf, value_at}
+use Rattle.wn_net.specs.Net.{Netlist, IsNode, IsNodeOf, AreNodesOf, IsWriteOf, value_at, width_at}
 use Rattle.wn_net.specs.Changes.{AddsNodes}
 use Rattle.wn_net.proofs.Laws.{there_on, value_on}
 use Rattle.wn_mem.specs.Words.{words_width}
@@ -19,7 +19,7 @@ use Rattle.vl_lower_assign.specs.Puts.{put_bits}
 use Rattle.vl_lower_assign.proofs.Masking.{masked_is}
 use Rattle.vl_lower_assign.specs.declared.slot.Holder.{Holder}
 use Rattle.vl_lower_assign.specs.declared.slot.Holder.TheVariants as holder
-use Rattle.vl_lower_assign.specs.Slots.{HoldsCells, Stores}
+use Rattle.vl_lower_assign.specs.Slots.{AreAround, HoldsCells, IsToldBy, Stores}
 use Rattle.vl_lower_assign.proofs.Written.{after_put, same_or, set_here, set_there}
 
 pub place_on : (old new : Netlist) (p : BitPlace) → AddsNodes old new → IsPlaceIn old p → IsPlaceIn new p
@@ -97,13 +97,29 @@ holds_words net cells w h first count address e own =
 
 -- a write that leaves these words, which then stand in the cells
 pub words_stored : (old new : Netlist) (cells after words : List ℕ) (w first count address : ℕ) (h : Holder) (x : MemWrite)
-    → h ≡ holder.Word first count address → IsWriteOf new w x
+    → h ≡ holder.Word first count address → HoldsWords old cells w first count address → IsWriteOf new w x
     → ((g : Given) (k : ℕ) → IsGiven old g → k < count
     → value_at new g (slice_index words k)
     ≡ (if (value_at new g x.enable == 1) && (k == value_at new g x.addr)
     then masked w (value_at new g x.mask) (value_at old g (slice_index cells (first + k))) (value_at new g x.value)
     else value_at old g (slice_index cells (first + k))))
-    → ((k : ℕ) → k < count → slice_index after (first + k) ≡ slice_index words k) → Stores old new cells after w h x
-words_stored old new cells after words w first count address h x e fits numbers inside =
-    subst (λ (k : Holder). Stores old new cells after w k x) (sym e)
-    (fits, λ g k given less. ap (value_at new g) (inside k less) ∙ numbers g k given less)
+    → ((k : ℕ) → k < count → slice_index after (first + k) ≡ slice_index words k)
+    → Stores old new cells after w h (record { first = first; count = count; write = x })
+words_stored old new cells after words w first count address h x e own fits numbers inside =
+    let all : (first ≤ first) × (first + count ≤ first + count) = (omega arith, omega arith) in
+    let front : first + 0 ≡ first = omega arith in
+    record {
+      around = subst (AreAround first count) (sym e) all;
+      within = own.within;
+      wide = ap (λ i. width_at old (slice_index cells i)) (sym front) ∙ (own.node 0 own.some).1;
+      fits = fits;
+      numbers = λ g k given less. ap (value_at new g) (inside k less) ∙ numbers g k given less;
+    }
+
+-- and it is told by the node of the slot
+pub words_told : (w first count address : ℕ) (h : Holder) (x : MemWrite) → h ≡ holder.Word first count address
+    → x.addr ≡ address → IsToldBy h (record { first = first; count = count; write = x })
+words_told w first count address h x e same =
+    let T : Holder → Type 0 = λ k. IsToldBy k (record { first = first; count = count; write = x }) in
+    let told : (first ≡ first) × (count ≡ count) × (x.addr ≡ address) = (refl, refl, same) in
+    subst T (sym e) told

@@ -5,7 +5,6 @@ use Rattle.std.specs.Prelude.{Bool, true, false, Option, Some, None, List}
 use Rattle.std.specs.Prelude.{length, slice_index, if◌then◌else◌, ℤ}
 use Rattle.fv_bits.specs.Bits.{masked}
 use Rattle.wn_net.specs.Value.{Given}
-use Rattle.wn_net.specs.declared.parts.MemWrite.{MemWrite}
 use Rattle.wn_net.specs.Net.{Netlist, IsNode, IsNodeOf, IsWriteOf, value_at, width_at}
 use Rattle.wn_net.specs.Given.{IsGiven}
 use Rattle.wn_net.specs.Changes.{AddsNodes}
@@ -14,6 +13,8 @@ use Rattle.vl_lower_assign.specs.Puts.{put_bits}
 use Rattle.vl_lower_assign.specs.declared.slot.Holder.{Holder}
 use Rattle.vl_lower_assign.specs.declared.slot.Holder.TheVariants as holder
 use Rattle.vl_lower_assign.specs.declared.slot.Slot.{Slot}
+use Rattle.vl_lower_assign.specs.declared.track.MemoryWord.{MemoryWord}
+use Rattle.vl_lower_assign.specs.declared.track.WordsWrite.{WordsWrite}
 
 -- ---- paths
 
@@ -82,13 +83,36 @@ pub record Writes (old new : Netlist) (before after : List ℕ) (path : Option �
       then put_bits slot.count slot.width p (value_at old g value) (value_at old g (slice_index before i))
       else value_at old g (slice_index before i))
 
--- The write is one to the words of a slot: it leaves of the words before in each cycle those after.
-abbrev pub Stores : Netlist → Netlist → List ℕ → List ℕ → ℕ → Holder → MemWrite → Type 0
-Stores old new before after width (holder.Word first count address) w =
-    IsWriteOf new width w
-    × ((g : Given) (k : ℕ) → IsGiven old g → k < count
-    → value_at new g (slice_index after (first + k))
-    ≡ (if (value_at new g w.enable == 1) && (k == value_at new g w.addr)
-    then masked width (value_at new g w.mask) (value_at old g (slice_index before (first + k))) (value_at new g w.value)
-    else value_at old g (slice_index before (first + k))))
-Stores old new before after width h w = ⊥
+-- ---- words of a memory
+
+-- the cells of a slot are all among so many from the first on
+abbrev pub AreAround : ℕ → ℕ → Holder → Type 0
+AreAround first count (holder.Cell at) = (first ≤ at) × (at < first + count)
+AreAround first count (holder.Word other many address) = (first ≤ other) × (other + many ≤ first + count)
+AreAround first count holder.Nowhere = Unit {0}
+
+-- The write is one to words that stand in cells, all those of a slot among them: it leaves of the words before in each
+-- cycle those after.
+pub record Stores (old new : Netlist) (before after : List ℕ) (width : ℕ) (h : Holder) (made : WordsWrite) : Type 0 where
+  pub around : AreAround made.first made.count h
+  pub within : made.first + made.count ≤ length before
+  pub wide : width_at old (slice_index before made.first) ≡ width
+  pub fits : IsWriteOf new width made.write
+  pub numbers : (g : Given) (k : ℕ) → IsGiven old g → k < made.count
+      → value_at new g (slice_index after (made.first + k))
+      ≡ (if (value_at new g made.write.enable == 1) && (k == value_at new g made.write.addr)
+      then masked width (value_at new g made.write.mask) (value_at old g (slice_index before (made.first + k)))
+      (value_at new g made.write.value)
+      else value_at old g (slice_index before (made.first + k)))
+
+-- it is one to the words of a slot, by the node that tells which of them
+abbrev pub IsToldBy : Holder → WordsWrite → Type 0
+IsToldBy (holder.Word first count address) made =
+    (made.first ≡ first) × (made.count ≡ count) × (made.write.addr ≡ address)
+IsToldBy h made = Unit {0}
+
+-- The word is one of words in a row that stand in cells, the first of them of a width.
+pub record IsWordIn (net : Netlist) (cells : List ℕ) (width : ℕ) (word : MemoryWord) : Type 0 where
+  pub reached : word.address < word.count
+  pub within : word.first + word.count ≤ length cells
+  pub wide : width_at net (slice_index cells word.first) ≡ width

@@ -12,6 +12,7 @@ use Rattle.wn_chain.specs.Writes.{written_by}
 use Rattle.vl_lower_assign.specs.declared.slot.Holder.{Holder}
 use Rattle.vl_lower_assign.specs.declared.slot.Holder.TheVariants as holder
 use Rattle.vl_lower_assign.specs.declared.track.Track.{Track}
+use Rattle.vl_lower_assign.specs.declared.track.WordsWrite.{WordsWrite}
 
 -- In each cycle so many cells from the first on have the numbers that the writes leave of the words of the memory with
 -- this number.
@@ -60,31 +61,31 @@ pub record Gains (write : MemWrite) (old new : Track) : Type 0 where
 abbrev pub AreOff : ℕ → ℕ → ℕ → ℕ → Type 0
 AreOff first count other many = (other + many ≤ first) ⊎ (first + count ≤ other)
 
--- the write is one more, to the words that are the written cells
-pub record IsOneMore (first count : ℕ) (made : Option MemWrite) (old : Track) (writes : List MemWrite) : Type 0 where
-  pub first_is : old.first ≡ first
-  pub count_is : old.count ≡ count
+-- there is one write more, to the words of this memory
+pub record IsOneMore (made : Option WordsWrite) (old : Track) (writes : List MemWrite) : Type 0 where
   pub before : List MemWrite
-  pub write : MemWrite
+  pub one : WordsWrite
+  pub first_is : old.first ≡ one.first
+  pub count_is : old.count ≡ one.count
   pub known : old.writes ≡ Some before
-  pub made_is : made ≡ Some write
-  pub all : writes ≡ before ++ write ∷ []
+  pub made_is : made ≡ Some one
+  pub all : writes ≡ before ++ one.write ∷ []
 
 -- Where so many cells from one on were written, its writes are those from before, and none of its cells is one of these;
--- or there is one more, which was made of what was written; or they are no longer known.
-pub record Follows (first count : ℕ) (made : Option MemWrite) (old new : Track) : Type 0 where
+-- or there is one more, which was made where these were written; or they are no longer known.
+pub record Follows (first count : ℕ) (made : Option WordsWrite) (old new : Track) : Type 0 where
   pub first_is : new.first ≡ old.first
   pub count_is : new.count ≡ old.count
   pub writes : IfSome new.writes (λ ws. ((old.writes ≡ Some ws) × AreOff first count old.first old.count)
-      ⊎ IsOneMore first count made old ws)
+      ⊎ IsOneMore made old ws)
 
 -- and so each of them
-pub record FollowAll (first count : ℕ) (made : Option MemWrite) (old new : List Track) : Type 0 where
+pub record FollowAll (first count : ℕ) (made : Option WordsWrite) (old new : List Track) : Type 0 where
   pub many : length new ≡ length old
   pub each : (i : ℕ) → i < length old → Follows first count made (track_at old i) (track_at new i)
 
 -- by what holds the bits that were written
-abbrev pub FollowWrite : Holder → Option MemWrite → List Track → List Track → Type 0
+abbrev pub FollowWrite : Holder → Option WordsWrite → List Track → List Track → Type 0
 FollowWrite (holder.Cell at) made old new = FollowAll at 1 made old new
 FollowWrite (holder.Word first count address) made old new = FollowAll first count made old new
 FollowWrite holder.Nowhere made old new = new ≡ old

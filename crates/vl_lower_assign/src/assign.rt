@@ -8,17 +8,19 @@ ghost use Rattle.vl_lower_assign.specs.declared.slot.Holder.TheVariants as of;
 ghost use Rattle.vl_lower_assign.specs.Slots.{AreCells, IsPath, IsSlotIn, Stores, Writes};
 ghost use Rattle.vl_lower_assign.specs.Frames.{AllSlots, Assigns, IsFrame, IsSlotFor, cells_of, slots_width};
 ghost use Rattle.vl_lower_assign.specs.Logs.{noted, noted_of, IsWithin};
+ghost use Rattle.vl_lower_assign.specs.Tracks.{AreTracks};
 
 use crate::change::Change;
 use crate::frame::Frame;
 use crate::slot::{Holder, Slot};
-use crate::tracking::keep_write;
-use crate::write::write_slot;
+use crate::track::{Track, WordsWrite};
+use crate::tracking::{keep_write, word_of};
+use crate::write::{write_slot, write_word};
 use fv_text::Memory;
 use std::alloc::Global;
 use vl_size::Decls;
 use vl_tree::AssignKind;
-use wn_net::{MemWrite, Net, NodeId};
+use wn_net::{Net, NodeId};
 
 /// Keeps in the log what stands in so many cells now.
 fn note(frame: &mut Frame, first: usize, count: usize) -> Result<(), Memory>
@@ -83,7 +85,7 @@ fn write_cells(
     cells: &mut Vec<NodeId>,
     slot: Slot,
     value: NodeId,
-) -> Result<Option<MemWrite>, Memory>
+) -> Result<Option<WordsWrite>, Memory>
     requires path { IsPath net.old path }
     requires cells { AreCells net.old cells.old.items }
     requires slot { IsSlotIn net.old cells.old.items slot }
@@ -93,6 +95,36 @@ fn write_cells(
         (Stores net.old net.new cells.old.items cells.new.items slot.width slot.holder)) }
 {
     let made = write_slot(alloc, net, path, cells.as_mut_slice(), slot, value)?;
+    Ok(made)
+}
+
+/// Writes a number to a slot of cells beside which memories' writes are kept. The answer: the write that did it, where
+/// the slot is one of several words or a word of a memory whose writes are known.
+fn write_kept(
+    alloc: Global,
+    net: &mut Net,
+    path: Option<NodeId>,
+    tracks: &[Track],
+    cells: &mut Vec<NodeId>,
+    slot: Slot,
+    value: NodeId,
+) -> Result<Option<WordsWrite>, Memory>
+    requires path { IsPath net.old path }
+    requires tracks { AreTracks net.old cells.old.items tracks.now }
+    requires cells { AreCells net.old cells.old.items }
+    requires slot { IsSlotIn net.old cells.old.items slot }
+    requires value { IsNodeOf net.old slot.count value }
+    ensures writes { OnOk result (Writes net.old net.new cells.old.items cells.new.items path slot value) }
+    ensures stores { IfOk result (λ made. IfSome made
+        (Stores net.old net.new cells.old.items cells.new.items slot.width slot.holder)) }
+{
+    if let Holder::Cell(at) = slot.holder {
+        if let Some(word) = word_of(net, tracks, cells.as_slice(), at, slot.width) {
+            let made = write_word(alloc, net, path, cells.as_mut_slice(), slot, word, value)?;
+            return Ok(made);
+        }
+    }
+    let made = write_cells(alloc, net, path, cells, slot, value)?;
     Ok(made)
 }
 
@@ -147,7 +179,15 @@ fn write_next(
     ensures { OnOk result (Assigns net.old net.new decls.now (cells_of frame.old) (cells_of frame.new) path
         a.Nonblocking (slot ∷ []) (λ g. value_at net.old g value)) }
 {
-    let made = write_cells(alloc, net, path, &mut frame.next, slot, value)?;
+    let made = write_kept(
+        alloc,
+        net,
+        path,
+        frame.tracks.as_slice(),
+        &mut frame.next,
+        slot,
+        value,
+    )?;
     let cells = frame.next.len();
     Ok(keep_write(&mut frame.tracks, cells, slot.holder, made)?)
 }

@@ -2,12 +2,13 @@
 
 ghost use Rattle.std.specs.Prelude.{◌≡◌, ◌+◌, ◌^◌, ◌<◌, ◌≤◌, ℕ, None, IfSome, OnOk, length};
 ghost use Rattle.vl_lower_assign.specs.Logs.{IsWithin};
-ghost use Rattle.vl_lower_assign.specs.Tracks.{AreApart, FollowAll, FollowWrite, Gains, track_at};
+ghost use Rattle.vl_lower_assign.specs.Slots.{AreAround, AreCells, IsWordIn};
+ghost use Rattle.vl_lower_assign.specs.Tracks.{AreApart, AreTracks, FollowAll, FollowWrite, Gains, track_at};
 
 use crate::slot::Holder;
-use crate::track::Track;
+use crate::track::{MemoryWord, Track, WordsWrite};
 use fv_text::Memory;
-use wn_net::MemWrite;
+use wn_net::{MemWrite, Net, NodeId};
 
 /// How many of the memories begin in front of a cell.
 fn begun_before(tracks: &[Track], end: usize) -> usize
@@ -42,6 +43,49 @@ fn words_from(tracks: &[Track], first: usize, count: usize) -> Option<usize>
         return Some(at);
     }
     None
+}
+
+/// The memory of which a cell is a word.
+fn memory_of(tracks: &[Track], at: usize) -> Option<usize>
+    requires apart { AreApart tracks.now }
+    requires end { at + 1 < 2 ^ 64 }
+    ensures { IfSome result (λ i. (i < length tracks.now) × ((track_at tracks.now i).first ≤ at)
+        × (at < (track_at tracks.now i).first + (track_at tracks.now i).count)) }
+{
+    let last = begun_before(tracks, at + 1).checked_sub(1)?;
+    let track = &tracks[last];
+    if at - track.first < track.count {
+        return Some(last);
+    }
+    None
+}
+
+/// The word that a cell is, where the writes of its memory are known and the words have the width; one at an address of
+/// more than 32 bits isn't told.
+pub(crate) fn word_of(
+    net: &Net,
+    tracks: &[Track],
+    cells: &[NodeId],
+    at: usize,
+    width: u32,
+) -> Option<MemoryWord>
+    requires cells { AreCells net.now cells.now }
+    requires tracks { AreTracks net.now cells.now tracks.now }
+    requires at { at < length cells.now }
+    ensures at { IfSome result (λ word. at ≡ word.first + word.address) }
+    ensures word { IfSome result (IsWordIn net.now cells.now width) }
+{
+    let track = &tracks[memory_of(tracks, at)?];
+    let first = track.first;
+    if track.writes.is_none() || net.width(cells[first]) != width {
+        return None;
+    }
+    let address = u32::try_from(at - first).ok()?;
+    Some(MemoryWord {
+        first,
+        count: track.count,
+        address,
+    })
 }
 
 /// One more write behind those that are known.
@@ -96,20 +140,23 @@ fn forget(tracks: &mut [Track], first: usize, count: usize)
     }
 }
 
-/// Keeps the write that was made to so many cells from the first on, where they are all words of a memory.
+/// Keeps the write that was made where so many cells from the first on were written, if it is one to all words of a
+/// memory.
 fn keep_words(
     tracks: &mut [Track],
     first: usize,
     count: usize,
-    made: Option<MemWrite>,
+    made: Option<WordsWrite>,
 ) -> Result<(), Memory>
     requires apart { AreApart tracks.old }
     requires end { first + count < 2 ^ 64 }
+    requires around { IfSome made (λ m. (m.first ≤ first) × (first + count ≤ m.first + m.count)
+        × (m.first + m.count < 2 ^ 64)) }
     ensures { OnOk result (FollowAll first count made tracks.old tracks.new) }
 {
-    if let Some(write) = made {
-        if let Some(at) = words_from(tracks, first, count) {
-            return Ok(add_write(&mut tracks[at], write)?);
+    if let Some(made) = made {
+        if let Some(at) = words_from(tracks, made.first, made.count) {
+            return Ok(add_write(&mut tracks[at], made.write)?);
         }
     }
     forget(tracks, first, count);
@@ -122,17 +169,16 @@ pub(crate) fn keep_write(
     tracks: &mut Vec<Track>,
     cells: usize,
     holder: Holder,
-    made: Option<MemWrite>,
+    made: Option<WordsWrite>,
 ) -> Result<(), Memory>
     requires apart { AreApart tracks.old.items }
     requires within { IsWithin cells holder }
+    requires around { IfSome made (λ m. AreAround m.first m.count holder) }
+    requires made { IfSome made (λ m. m.first + m.count ≤ cells) }
     ensures { OnOk result (FollowWrite holder made tracks.old.items tracks.new.items) }
 {
     match holder {
-        Holder::Cell(at) => {
-            forget(tracks.as_mut_slice(), at, 1);
-            Ok(())
-        }
+        Holder::Cell(at) => Ok(keep_words(tracks.as_mut_slice(), at, 1, made)?),
         Holder::Word {
             first,
             count,

@@ -10,13 +10,17 @@ ghost use Rattle.wn_net.specs.Given.{IsGiven};
 ghost use Rattle.wn_net.specs.Changes.{AddsNodes};
 ghost use Rattle.vl_lower_assign.specs.Places.{IsAt, IsPlaceIn};
 ghost use Rattle.vl_lower_assign.specs.Puts.{put_bits};
-ghost use Rattle.vl_lower_assign.specs.Slots.{AreAlike, AreCells, IsPath, IsSlotIn, Stores, Writes, is_taken};
+ghost use Rattle.vl_lower_assign.specs.declared.slot.Holder.TheVariants as of;
+ghost use Rattle.vl_lower_assign.specs.Slots.{AreAlike, AreCells, IsPath, IsSlotIn, IsToldBy, IsWordIn, Stores, Writes};
+ghost use Rattle.vl_lower_assign.specs.Slots.{is_taken};
 
 use crate::path::{test_of, where_taken};
 use crate::slot::{Holder, Slot};
 use crate::spread::{BitPlace, put_at, spread_bits};
+use crate::track::{MemoryWord, WordsWrite};
 use fv_text::Memory;
 use std::alloc::Global;
+use vl_lower_nodes::number;
 use wn_mem::write_all;
 use wn_net::{MemWrite, Net, NodeId};
 
@@ -71,6 +75,7 @@ fn write_words(
         then put_bits slot.count slot.width p (value_at net.old g value) (value_at net.old g (slice_index words.old k))
         else value_at net.old g (slice_index words.old k))) }
     ensures fits { IfOk result (IsWriteOf net.new slot.width) }
+    ensures told { IfOk result (λ w. w.addr ≡ address) }
     ensures stores { IfOk result (λ w. (g : Given) (k : ℕ) → IsGiven net.old g → k < length words.old
         → value_at net.new g (slice_index words.new k)
         ≡ (if (value_at net.new g w.enable == 1) && (k == value_at net.new g w.addr)
@@ -106,14 +111,14 @@ fn put_back(cells: &mut [NodeId], first: usize, words: &[NodeId])
 
 /// Writes the bits of a node to a slot where the path is taken (IEEE 1364-2005, sections 4.2.1 and 9.2); of a word past
 /// the last one and of bits past the cell they are dropped. The answer: the write that did it, where the slot is one of several words.
-pub fn write_slot(
+pub(crate) fn write_slot(
     alloc: Global,
     net: &mut Net,
     path: Option<NodeId>,
     cells: &mut [NodeId],
     slot: Slot,
     value: NodeId,
-) -> Result<Option<MemWrite>, Memory>
+) -> Result<Option<WordsWrite>, Memory>
     requires path { IsPath net.old path }
     requires cells { AreCells net.old cells.old }
     requires slot { IsSlotIn net.old cells.old slot }
@@ -121,6 +126,7 @@ pub fn write_slot(
     ensures writes { OnOk result (Writes net.old net.new cells.old cells.new path slot value) }
     ensures stores { IfOk result (λ made. IfSome made
         (Stores net.old net.new cells.old cells.new slot.width slot.holder)) }
+    ensures told { IfOk result (λ made. IfSome made (IsToldBy slot.holder)) }
 {
     match slot.holder {
         Holder::Cell(at) => {
@@ -136,8 +142,54 @@ pub fn write_slot(
             let mut words = Vec::from_slice(alloc, &cells[first..first + count])?;
             let write = write_words(alloc, net, path, words.as_mut_slice(), address, slot, value)?;
             put_back(cells, first, words.as_slice());
-            Ok(Some(write))
+            Ok(Some(WordsWrite {
+                first,
+                count,
+                write,
+            }))
         }
         Holder::Nowhere => Ok(None),
+    }
+}
+
+/// Writes the bits of a node to a slot where the path is taken, whose cell is a word of a memory: no other cell is
+/// written. The answer: the write to the memory that did it.
+pub(crate) fn write_word(
+    alloc: Global,
+    net: &mut Net,
+    path: Option<NodeId>,
+    cells: &mut [NodeId],
+    slot: Slot,
+    word: MemoryWord,
+    value: NodeId,
+) -> Result<Option<WordsWrite>, Memory>
+    requires path { IsPath net.old path }
+    requires cells { AreCells net.old cells.old }
+    requires slot { IsSlotIn net.old cells.old slot }
+    requires holder { slot.holder ≡ of.Cell (word.first + word.address) }
+    requires word { IsWordIn net.old cells.old slot.width word }
+    requires value { IsNodeOf net.old slot.count value }
+    ensures writes { OnOk result (Writes net.old net.new cells.old cells.new path slot value) }
+    ensures stores { IfOk result (λ made. IfSome made
+        (Stores net.old net.new cells.old cells.new slot.width slot.holder)) }
+{
+    // The cell is written as the one word of a memory, so that the write is told by which it is written.
+    let zero = number(net, 1, 0)?;
+    let addr = number(net, 32, u128::from(word.address))?;
+    let alone = Slot {
+        holder: Holder::Word {
+            first: word.first + word.address as usize,
+            count: 1,
+            address: zero,
+        },
+        ..slot
+    };
+    match write_slot(alloc, net, path, cells, alone, value)? {
+        Some(made) => Ok(Some(WordsWrite {
+            first: word.first,
+            count: word.count,
+            write: MemWrite { addr, ..made.write },
+        })),
+        None => Ok(None),
     }
 }

@@ -8,7 +8,7 @@ use Rattle.vl_lower_assign.specs.Slots.{is_taken}
 use Rattle.vl_lower_assign.proofs.Places.{holds_cell, holds_words}
 use Rattle.vl_lower_assign.proofs.Ranges.{index_among, range_count}
 use Rattle.vl_lower_assign.proofs.Written.{after_put, cell_writes, none_writes, words_write}
-use Rattle.vl_lower_assign.proofs.Places.{words_stored}
+use Rattle.vl_lower_assign.proofs.Places.{words_stored, words_told}
 use Rattle.vl_lower_assign.proofs.write.write_slot.Goals as goal
 
 pub bounds-cells-at : goal.bounds-cells-at
@@ -28,6 +28,7 @@ returns-in_ok-node-in-Cell c =
           c.requires.cells own.0 own.1 c.requires.value c.in_ok-node-in-Cell.ensures.adds c.in_ok-node-in-Cell.ensures.there
           c.in_ok-node-in-Cell.ensures.value;
       stores = tt;
+      told = tt;
     }
 
 pub returns-in-Nowhere : goal.returns-in-Nowhere
@@ -37,6 +38,7 @@ returns-in-Nowhere c =
           none_writes c.args.net.now c.args.net.now c.args.cells.now c.args.path c.args.slot c.args.value c.in-Nowhere.is
           c.requires.cells refl (adds_none c.args.net.now);
       stores = tt;
+      told = tt;
     }
 
 pub returns-in_ok-write-in-Word : goal.returns-in_ok-write-in-Word
@@ -76,7 +78,7 @@ returns-in_ok-write-in-Word c =
           (λ i apart. c.put_back.ensures.outside i (λ k less e. apart k (omega (arith, less, length_put)) e));
       stores =
           words_stored net new cells after words slot.width first count address slot.holder
-          c.in_ok-write-in-Word.write c.in-Word.is c.in_ok-write-in-Word.ensures.fits
+          c.in_ok-write-in-Word.write c.in-Word.is own c.in_ok-write-in-Word.ensures.fits
           (λ g k given less.
           let x_is = ap (λ xs. slice_index xs k) was ∙ index_among cells first count k less in
           let w = c.in_ok-write-in-Word.write in
@@ -85,4 +87,7 @@ returns-in_ok-write-in-Word c =
           then masked slot.width (value_at new g w.mask) (value_at net g (x_is i)) (value_at new g w.value)
           else value_at net g (x_is i)))
           inside;
+      told =
+          words_told slot.width first count address slot.holder c.in_ok-write-in-Word.write c.in-Word.is
+          c.in_ok-write-in-Word.ensures.told;
     }
