@@ -21,14 +21,21 @@ fn has_varying_write(net: &Net, mem: &Mem) -> bool {
     false
 }
 
+/// Whether a memory stands in the frames as a chain: one of its writes may be at another address in each cycle, and it has
+/// fewer writes than words. A read of a chain tests each write of each cycle before, so where each word is reset it would
+/// test as many constant addresses for each of these cycles as there are words.
+fn is_chain(net: &Net, mem: &Mem) -> bool {
+    mem.writes.len() < mem.words as usize && has_varying_write(net, mem)
+}
+
 /// What stands for a memory that begins with these words. Writes at constant addresses take one choice each where every
 /// word has a node; a write at an address that varies takes none in a chain, and a choice for each word otherwise.
-fn memory_of(alloc: Global, words: &[NodeId], varies: bool) -> Result<MemoryNodes, Memory>
+fn memory_of(alloc: Global, words: &[NodeId], chained: bool) -> Result<MemoryNodes, Memory>
     requires { 1 ≤ length words.now }
     ensures { IfOk result (λ memory. (net : Netlist) → StandsForWords net words.now memory) }
 {
     let words = List::from_vec(Vec::from_slice(alloc, words)?);
-    if varies {
+    if chained {
         let chain = Chain::start(alloc, words);
         return Ok(MemoryNodes::Writes(chain));
     }
@@ -47,9 +54,9 @@ fn memories_of(
 {
     let mut made = Vec::with_capacity(alloc, words.len())?;
     for (index, mem) in net.mems().iter().enumerate() {
-        let varies = has_varying_write(net, mem);
+        let chained = is_chain(net, mem);
         let ids = words[index].as_slice();
-        let memory = memory_of(alloc, ids, varies)?;
+        let memory = memory_of(alloc, ids, chained)?;
         made.push(memory)?;
     }
     Ok(List::from_vec(made))
