@@ -53,6 +53,7 @@ pub fn decide<S: Search>(
     opts: Opts,
     budget: u64,
 ) -> Result<Verdict, Memory>
+    requires can { S.can_find search.now }
     requires port { ArePortNodes net.now port.now }
     requires question { IsQuestion (length port.now.channels) question.now }
     requires few { length port.now.channels ≤ 2 }

@@ -17,9 +17,13 @@ pub trait Search: Sync {
     /// What is known of steps that refute a formula within a budget, beside that they do.
     ghost more: { Self → ℕ → Cnf → List Step → Type 0 };
 
+    /// What has to hold for a search to begin.
+    ghost can_find: { Self → Type 0 } = { λ _. Unit {0} };
+
     /// Values that make the formula true, or steps that refute it, or as many new clauses as the budget.
     fn find(&self, alloc: Global, formula: &Formula, budget: u64) -> Result<Found, Memory>
-        requires { 0 < budget }
+        requires can { can_find self.now }
+        requires budget { 0 < budget }
         ensures model { IfOk result (λ found. IfModel found
             (λ values. formula_true (value_of values) formula.now.clauses ≡ true)) }
         ensures refuted { IfOk result (λ found. IfRefuted found

@@ -22,7 +22,8 @@ pub fn settle<S: Search>(
     clauses: RunClauses,
     budget: u64,
 ) -> Result<Verdict, Memory>
-    requires { 0 < budget }
+    requires can { S.can_find search.now }
+    requires budget { 0 < budget }
     ensures { IfOk result (Settles (S.more search.now budget) budget clauses) }
 {
     let formula = &clauses.encoded.formula;

@@ -23,6 +23,7 @@ pub fn decide_base<S: Search>(
     k: u32,
     budget: u64,
 ) -> Result<Verdict, Memory>
+    requires can { S.can_find search.now }
     requires bad { IsNode net.now bad }
     requires within { IsWithinBy 3 net.now }
     requires some { 1 ≤ k }
@@ -45,6 +46,7 @@ pub fn decide_step<S: Search>(
     k: u32,
     budget: u64,
 ) -> Result<Verdict, Memory>
+    requires can { S.can_find search.now }
     requires bad { IsNode net.now bad }
     requires within { IsWithinBy 1 net.now }
     requires some { 1 ≤ k }

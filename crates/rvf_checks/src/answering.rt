@@ -18,6 +18,7 @@ pub(crate) fn judge_at<S: Search>(
     budget: u64,
     place: usize,
 ) -> Result<Judged, Memory>
+    requires can { S.can_find search.now }
     requires ready { IsReady case.now }
     requires budget { 0 < budget }
     ensures { IfOk result (IsAnswerAt (S.more search.now) case.now budget place) }

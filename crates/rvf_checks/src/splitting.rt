@@ -1,4 +1,5 @@
 ghost use Rattle.std.specs.Prelude.{◌≤◌};
+ghost use Rattle.std.specs.Thread.{IsSync};
 ghost use Rattle.rvf_checks.specs.Known.{known_of};
 
 use bm_decide::{Plain, Search};
@@ -24,6 +25,9 @@ pub struct Splitting<'a, R> {
 
 impl<R: Threads + Sync> Search for Splitting<'_, R> {
     ghost more = { λ search. known_of search.cubes };
+
+    // threads may share the handle: said here, since a method of a trait knows it of no type parameter
+    ghost can_find = { λ _. IsSync R.row };
 
     fn find(&self, alloc: Global, formula: &Formula, budget: u64) -> Result<Found, Memory> {
         if self.cubes == 0 {

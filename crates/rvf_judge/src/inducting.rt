@@ -87,6 +87,7 @@ fn stepped<S: Search>(
     budget: u64,
     refuted: &Certificate,
 ) -> Result<Induction, Memory>
+    requires can { S.can_find search.now }
     requires names { AreNamesOf net.now names.now }
     requires graphic { AreGraphic names.now }
     requires bad { IsNodeOf net.now 1 bad }
@@ -129,6 +130,7 @@ fn inducted<S: Search>(
     k: u32,
     budget: u64,
 ) -> Result<Induction, Memory>
+    requires can { S.can_find search.now }
     requires names { AreNamesOf net.now names.now }
     requires graphic { AreGraphic names.now }
     requires bad { IsNodeOf net.now 1 bad }
@@ -171,6 +173,7 @@ pub fn induct<S: Search>(
     k: u32,
     budget: u64,
 ) -> Result<Induction, Memory>
+    requires can { S.can_find search.now }
     requires names { AreNamesOf net.now names.now }
     requires graphic { AreGraphic names.now }
     requires port { ArePortNodes net.now port.now }

@@ -37,6 +37,7 @@ pub fn judge<S: Search>(
     opts: Opts,
     budget: u64,
 ) -> Result<Judged, Memory>
+    requires can { S.can_find search.now }
     requires names { AreNamesOf net.now names.now }
     requires graphic { AreGraphic names.now }
     requires port { ArePortNodes net.now port.now }

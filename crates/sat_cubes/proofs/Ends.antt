@@ -10,7 +10,7 @@ use Rattle.sat_search.specs.Found.{IfModel, IfSpent}
 use Rattle.sat_search.specs.declared.found.Found.{Found}
 use Rattle.sat_search.specs.declared.found.Found.TheVariants as found
 use Rattle.rvf_jobs.specs.Answers.{AreAnswers}
-use Rattle.sat_search.proofs.Places.{push_cases, push_last}
+use Rattle.sat_search.proofs.Places.{push_last}
 use Rattle.sat_cubes.specs.Cubes.{IsCube, open_vars, others, restricted, cube_of}
 use Rattle.sat_cubes.specs.Splits.{is_split, AreSplit, IsNext}
 use Rattle.sat_cubes.specs.Joined.{AreSmall, CanSplit}
@@ -23,7 +23,6 @@ use Rattle.sat_cubes.proofs.Blocks.{cube_is, cube_open}
 use Rattle.sat_cubes.proofs.Merging.{length_merged, merged_true}
 use Rattle.sat_cubes.proofs.Standing.{get_left}
 use Rattle.sat_cubes.proofs.Steps.{each_more}
-use Rattle.sat_cubes.proofs.Walks.{none_some}
 
 -- ---- one cube
 
@@ -161,37 +160,6 @@ answers_more P xs ys all first many one other e is = record {
       let f = h.1 in
       let same : first + h.0 ≡ 0 + i = omega (arith, e, f) in
       subst (λ n. P n a) same (other.each h.0 a h.2)
-
--- one more answer behind the others
-pub answers_last : (P : ℕ → Part → Type 0) (xs all : List Part) (first many count last : ℕ) (a : Part)
-    → AreAnswers P first many xs → P last a → last ≡ first + many → count ≡ many + 1 → all ≡ xs ++ a ∷ []
-    → AreAnswers P first count all
-answers_last P xs all first many count last a are p e n is =
-    let long : length all ≡ length xs + 1 = ap length is ∙ length-append xs (a ∷ []) in
-    let whole = are.whole in
-    record {
-      whole = omega (arith, long, whole, n);
-      each = λ i b f. at i b (push_cases xs a i b (ap (λ zs. slice_get zs i) (sym is) ∙ f));
-    } where
-      at : (i : ℕ) (b : Part) → (slice_get xs i ≡ Some b) ⊎ ((i ≡ length xs) × (a ≡ b)) → P (first + i) b
-      at i b (inl h) = are.each i b h
-      at i b (inr h) =
-          let place = h.0 in
-          let whole = are.whole in
-          let same : last ≡ first + i = omega (arith, e, place, whole) in
-          subst (λ c. P (first + i) c) h.1 (subst (λ k. P k a) same p)
-
-no_part : (i : ℕ) (a : Part) → slice_get [] i ≡ Some a → ⊥
-no_part zero a e = none_some a e
-no_part (suc i) a e = none_some a e
-
-pub answers_one : (P : ℕ → Part → Type 0) (xs all : List Part) (first count : ℕ) (a : Part) → xs ≡ [] → P first a
-    → count ≡ 1 → all ≡ xs ++ a ∷ [] → AreAnswers P first count all
-answers_one P xs all first count a none p n is =
-    answers_last P [] all first 0 count first a none_yet p (omega arith) (omega (arith, n))
-    (is ∙ ap (λ ys. ys ++ a ∷ []) none) where
-      none_yet : AreAnswers P first 0 []
-      none_yet = record { whole = refl; each = λ i b f. absurd (no_part i b f) }
 
 pub answers_all : (P : ℕ → Part → Type 0) (xs : List Part) (count : ℕ) → AreAnswers P 0 (length xs) xs
     → length xs ≡ count → AreAnswers P 0 count xs

@@ -1,4 +1,5 @@
--- Between functions: What steps over a formula's clauses lead to, as cubes are lifted and joined. Rules of this project.
+-- Between functions: What steps over a formula's clauses lead to, as cubes are lifted and joined. Rules of this
+-- project.
 use Rattle.std.specs.Prelude.{ℕ, ◌+◌, ◌^◌, ◌<◌, ◌≤◌, ◌≡◌, false, List, [], ◌∷◌, ◌++◌, ℤ}
 use Rattle.std.specs.Prelude.{length, take, slice_get, slice_index_or, Some}
 use Rattle.cnf_form.specs.Cnf.{Cnf}

@@ -16,7 +16,8 @@ use lrat_check::Step;
 use std::alloc::Global;
 
 /// Steps that refute the formula, from those that refute what each cube leaves of it: the lifted steps of all cubes, in
-/// their order, and behind them steps that join the cubes' clauses in pairs, one split variable at a time from the last.
+/// their order, and behind them steps that join the cubes' clauses in pairs, one split variable at a time from the
+/// last.
 pub(crate) fn joined(
     alloc: Global,
     formula: &Formula,

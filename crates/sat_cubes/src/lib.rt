@@ -6,7 +6,6 @@
 //! - Steps that refute a cube's rest, lifted to the formula, and joined with those of the other cubes.
 #![tactic(auto)]
 
-mod batch;
 mod book;
 mod counting;
 mod cube;

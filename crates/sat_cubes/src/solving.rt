@@ -9,7 +9,6 @@ ghost use Rattle.sat_cubes.specs.Splits.{TellsCubes};
 ghost use Rattle.sat_cubes.specs.Joined.{CanSplit};
 ghost use Rattle.sat_cubes.specs.Parts.{IsPart};
 
-use crate::batch::parts_from;
 use crate::cube::power_of_two;
 use crate::joining::joined;
 use crate::outcome::{Outcome, outcome_of};
@@ -17,6 +16,7 @@ use crate::part::{Cubes, Part};
 use crate::splitting::split_of;
 use cnf_form::Formula;
 use fv_text::Memory;
+use rvf_jobs::run_jobs;
 use sat_search::{Found, solve};
 use std::alloc::Global;
 use std::thread::Threads;
@@ -27,8 +27,7 @@ use std::thread::Threads;
 /// Each cube's search has the budget divided by the number of cubes, rounded down, and at least 1. Where some cube has
 /// a model, that of the lowest one is the answer; else, where all are refuted, steps that join their refutations; else
 /// it is the answer of `solve`. The only error is want of memory, also where there are `MOST_CLAUSES` clauses or more.
-/// The calling thread alone makes others, so the handle need not be one that threads may share.
-pub fn solve_cubes<R: Threads>(
+pub fn solve_cubes<R: Threads + Sync>(
     rt: &R,
     alloc: Global,
     formula: &Formula,
@@ -73,7 +72,7 @@ pub fn solve_cubes<R: Threads>(
 }
 
 /// What comes of each cube, in their order.
-fn parts_of<R: Threads>(
+fn parts_of<R: Threads + Sync>(
     rt: &R,
     alloc: Global,
     job: &Cubes,
@@ -90,7 +89,7 @@ fn parts_of<R: Threads>(
     let mut parts = Vec::with_capacity(alloc, count)?;
     'batches: while parts.len() < count {
         let many = (count - parts.len()).min(jobs as usize);
-        let batch = parts_from(rt, alloc, job, parts.len() as u32, many as u32)?;
+        let batch = run_jobs(rt, alloc, job, parts.len() as u32, many as u32)?;
         append(&mut parts, batch)?;
     }
     Ok(parts)

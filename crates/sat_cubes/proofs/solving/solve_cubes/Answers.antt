@@ -9,7 +9,7 @@ use Rattle.sat_cubes.proofs.Solves.{can_split, refutations_of, model_of, spent_o
 use Rattle.sat_cubes.proofs.solving.solve_cubes.Goals as goal
 
 pub parts_of-requires-clause-can : goal.parts_of-requires-clause-can
-parts_of-requires-clause-can g c =
+parts_of-requires-clause-can g c κs lives =
     subst (CanSplit c.args.formula.now) (sym c.as_slice.ensures.value)
     (can_split c.args.formula.now c.args.cubes c.in_ok-split.split.items c.in_ok-split.ensures c.requires.cubes
     (omega (arith, c.vars-vars.ensures.value, c.vars-vars.ensures.small)))
