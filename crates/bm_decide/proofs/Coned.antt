@@ -47,17 +47,17 @@ both_nodes : (net : Netlist) (xs ys : List ℕ) → AreNodes net xs → AreNodes
 both_nodes net [] ys h k = k
 both_nodes net (x ∷ xs) ys h k = (h.0, both_nodes net xs ys h.1 k)
 
+pub first_there : (net : Netlist) (watch : List ℕ) → IsNet net → AreNodes net watch
+    → AreNodes net (net.assumes ++ watch)
+first_there net watch whole watched = both_nodes net net.assumes watch whole.assumes watched
+
+pub assumed_first : (net : Netlist) (watch : List ℕ) (id : ℕ) → IsIn net.assumes id → IsIn (net.assumes ++ watch) id
+assumed_first net watch id h = in_left net.assumes watch id h
+
 module _ (net : Netlist) (watch : List ℕ) (bad : ℕ) (roots : List ℕ)
-    (are : roots ≡ net.assumes ++ watch ++ bad ∷ []) where
+    (are : roots ≡ (net.assumes ++ watch) ++ bad ∷ []) where
   abbrev In : ℕ → List ℕ → Type 0
   In id ids = IsIn ids id
-
-  pub roots_there : IsNet net → AreNodes net watch → IsNode net bad → AreNodes net roots
-  roots_there whole watched there =
-      let P : List ℕ → Type 0 = λ ids. AreNodes net ids in
-      subst P (sym are)
-      (both_nodes net (net.assumes ++ watch) (bad ∷ []) (both_nodes net net.assumes watch whole.assumes watched)
-      (there, tt))
 
   pub assumed_in : (id : ℕ) → IsIn net.assumes id → IsIn roots id
   assumed_in id h =

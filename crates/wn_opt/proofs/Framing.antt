@@ -6,17 +6,15 @@ use Rattle.std.proofs.lemmas.List.{length-take-le, take_all, length-map}
 use Rattle.std.proofs.lemmas.Option.{same_Some}
 use Rattle.fv_graph.proofs.Lists.{get_less, get_front, get_last, length_more}
 use Rattle.fv_graph.proofs.Moves.{same_or_not}
-use Rattle.wn_net.specs.declared.node.Node.{Node}
 use Rattle.wn_net.specs.declared.node.Node.TheVariants as n
 use Rattle.wn_net.specs.declared.parts.Input.{Input}
 use Rattle.wn_net.specs.declared.parts.Reg.{Reg}
 use Rattle.wn_net.specs.declared.parts.Mem.{Mem}
 use Rattle.wn_net.specs.Width.{IsWidth}
 use Rattle.wn_net.specs.Net.{Netlist, IsNet, IsNodeOf, IsRegOf, IsMemOf}
-use Rattle.wn_net.specs.Changes.{BuildsInput, BuildsReg, Grows, with_mem, with_node}
+use Rattle.wn_net.specs.Changes.{BuildsInput, BuildsReg, Grows, with_mem}
 use Rattle.wn_net.proofs.Laws.{built_input_node, built_reg_node, grown_node}
-use Rattle.wn_net.proofs.Stays.{with_node_has_more, node_stays}
-use Rattle.wn_opt.specs.Parts.{HasParts, IsFrame, without_writes, with_next_node}
+use Rattle.wn_opt.specs.Parts.{AddsBehind, HasParts, IsFrame, IsFront, without_writes, with_next_node}
 use Rattle.wn_opt.proofs.Before.{all_in}
 
 pub take_suc : {A : Type 0} (xs : List A) (k : ℕ) (x : A) → slice_get xs k ≡ Some x
@@ -225,19 +223,42 @@ frame_of net part h = record {
   assumes = h.assumes_are;
 }
 
--- and with one more node behind the others
-pub frame_on : (net a b : Netlist) (y : Node) → IsFrame net a → b ≡ with_node a y → IsFrame net b
-frame_on net a b y h e =
-    let more = with_node_has_more a y in
-    let Is : Netlist → Type 0 = λ m. IsFrame net m in
-    subst Is (sym e) (record {
-      input_nodes = λ i low. get_front a.nodes y i (n.Input i) (h.input_nodes i low);
-      reg_nodes = λ i low. get_front a.nodes y (length net.inputs + i) (n.Reg i) (h.reg_nodes i low);
-      input_widths = λ i x f. node_stays a (with_node a y) x.width i more (h.input_widths i x f);
-      reg_widths = λ i r f. node_stays a (with_node a y) r.width (length net.inputs + i) more (h.reg_widths i r f);
-      inputs = h.inputs;
-      regs_each = h.regs_each;
-      regs = h.regs;
-      mems = h.mems;
-      assumes = h.assumes;
-    })
+-- and with more nodes behind the others
+frame_on : (net a b : Netlist) → IsFrame net a → AddsBehind a b → IsFrame net b
+frame_on net a b h adds = record {
+  input_nodes = λ i low. adds.front i (n.Input i) (h.input_nodes i low);
+  reg_nodes = λ i low. adds.front (length net.inputs + i) (n.Reg i) (h.reg_nodes i low);
+  input_widths = λ i x f. adds.widths x.width i (h.input_widths i x f);
+  reg_widths = λ i r f. adds.widths r.width (length net.inputs + i) (h.reg_widths i r f);
+  inputs = adds.inputs ∙ h.inputs;
+  regs_each = ap length adds.regs ∙ h.regs_each;
+  regs = λ i r f. ap (λ rs. slice_get rs i) adds.regs ∙ h.regs i r f;
+  mems = adds.mems ∙ h.mems;
+  assumes = adds.assumes ∙ h.assumes;
+}
+
+pub framed : (net a b : Netlist) → HasParts net a (length net.inputs) (length net.regs) (length net.mems)
+    → AddsBehind a b → IsFrame net b
+framed net a b h adds = frame_on net a b (frame_of net a h) adds
+
+bare_widths : (ms : List Mem) → map (λ m. m.width) (map without_writes ms) ≡ map (λ m. m.width) ms
+bare_widths [] = refl
+bare_widths (m ∷ ms) = ap (λ ws. m.width ∷ ws) (bare_widths ms)
+
+pub front_of : (net part : Netlist) → IsFrame net part → IsFront net part
+front_of net part h = record {
+  input_nodes = h.input_nodes;
+  reg_nodes = h.reg_nodes;
+  input_widths = h.input_widths;
+  reg_widths = h.reg_widths;
+  mem_widths = ap (map (λ m. m.width)) h.mems ∙ bare_widths net.mems;
+}
+
+pub front_on : (net a b : Netlist) → IsFront net a → AddsBehind a b → IsFront net b
+front_on net a b h adds = record {
+  input_nodes = λ i low. adds.front i (n.Input i) (h.input_nodes i low);
+  reg_nodes = λ i low. adds.front (length net.inputs + i) (n.Reg i) (h.reg_nodes i low);
+  input_widths = λ i x f. adds.widths x.width i (h.input_widths i x f);
+  reg_widths = λ i r f. adds.widths r.width (length net.inputs + i) (h.reg_widths i r f);
+  mem_widths = ap (map (λ m. m.width)) adds.mems ∙ h.mem_widths;
+}

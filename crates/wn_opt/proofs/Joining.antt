@@ -1,7 +1,6 @@
 -- Next values, writes and assumptions, one after the other.
 use Rattle.std.specs.Prelude.{◌≡◌, refl, ℕ, zero, suc, ◌+◌, ◌<◌, Bool, true, false, List, [], ◌∷◌, ◌++◌}
-use Rattle.std.specs.Prelude.{length, map, take, Some, None, Option, is_none, slice_get, unwrap_or}
-use Rattle.std.specs.Prelude.{if◌then◌else◌}
+use Rattle.std.specs.Prelude.{length, map, take, Some, None, Option, is_none, slice_get}
 use Rattle.std.proofs.Common.{ap, sym, ◌∙◌, arith, subst, true≢false, ◌⊎◌, inl, inr}
 use Rattle.std.proofs.lemmas.Option.{same_Some}
 use Rattle.fv_graph.proofs.Lists.{get_less, get_some}
@@ -14,9 +13,9 @@ use Rattle.wn_net.specs.Changes.{Keeps, reg_width, mem_width, with_next, with_wr
 use Rattle.wn_opt.specs.Needed.{IsIn, write_nodes}
 use Rattle.wn_opt.specs.Cone.{IsPlace, HasPlace, place, places_of, with_place, renamed_write}
 use Rattle.wn_opt.specs.Marks.{IsSet}
-use Rattle.wn_opt.specs.Parts.{AddsWrites, AreBelow, AreCopied, AreNextsPlaced, ArePlaced, AreWritesFit}
-use Rattle.wn_opt.specs.Parts.{AreWritesPlaced, HasAssumes, HasNexts, HasSameNodes, HasWrites, IsFrame, is_set, next_of}
-use Rattle.wn_opt.specs.Parts.{with_next_node, with_writes_of, without_writes}
+use Rattle.wn_opt.specs.Parts.{AddsWrites, AreBare, AreBelow, AreCopied, AreNextsPlaced, ArePlaced, AreWritesFit}
+use Rattle.wn_opt.specs.Parts.{AreWritesPlaced, HasAssumes, HasNexts, HasRegs, HasSameNodes, HasWrites}
+use Rattle.wn_opt.specs.Parts.{with_next_node, without_writes}
 use Rattle.wn_opt.proofs.Begun.{index_map}
 use Rattle.wn_opt.proofs.Copying.{place_is}
 use Rattle.wn_opt.proofs.Framing.{take_more, map_more}
@@ -45,12 +44,12 @@ copied_same net a b marks t same h = record {
   nodes = λ id at x p e. ap (λ xs. slice_get xs at) same.nodes ∙ h.nodes id at x p e;
   widths = λ id at p. node_same a b (width_at net id) at same (h.widths id at p);
   others = λ at past low. h.others at past (omega (arith, low, ap length same.nodes));
+  closed = h.closed;
 }
 
--- ---- marks
-
-set_is : (bs : List Bool) (i : ℕ) (b : Bool) → slice_get bs i ≡ Some b → is_set bs i ≡ b
-set_is bs i b e = ap (λ o. unwrap_or o false) e
+-- a mark isn't set and unset
+set_unset : (bs : List Bool) (i k : ℕ) → i ≡ k → slice_get bs k ≡ Some false → IsSet bs i → ⊥
+set_unset bs i k is off on = true≢false (same_Some true false (sym on ∙ ap (slice_get bs) is ∙ off))
 
 -- ---- next values
 
@@ -81,17 +80,20 @@ nexts_none net a b marks t e =
       mems = refl;
       assumes = refl;
       each = refl;
-      regs = λ i r low e. absurd (omega (arith, low));
-      rest = λ i past. refl;
+      regs = λ i r low on e. absurd (omega (arith, low));
+      kept = λ i not. refl;
     })
 
-module _ (net a b : Netlist) (marks : List Bool) (t : List (Option ℕ)) (k : ℕ) (r : Reg) (frame : IsFrame net a)
+module _ (net a b : Netlist) (marks : List Bool) (t : List (Option ℕ)) (k : ℕ) (r : Reg) (regs : HasRegs net a)
     (h : HasNexts net marks t a b k) (at : slice_get net.regs k ≡ Some r) where
-  here : slice_get b.regs k ≡ Some (with_next_node (length net.inputs + k) r)
-  here = h.rest k (omega arith) ∙ frame.regs k r at
+  own : (next : ℕ) × (slice_get a.regs k ≡ Some (with_next_node next r))
+  own = regs k r at
+
+  here : slice_get b.regs k ≡ Some (with_next_node own.0 r)
+  here = h.kept k (λ low on. omega (arith, low)) ∙ own.1
 
   pub reg_there : k < length b.regs
-  reg_there = get_less b.regs k (with_next_node (length net.inputs + k) r) here
+  reg_there = get_less b.regs k (with_next_node own.0 r) here
 
   -- the next register isn't marked
   pub nexts_skip : slice_get marks k ≡ Some false → HasNexts net marks t a b (k + 1)
@@ -100,24 +102,19 @@ module _ (net a b : Netlist) (marks : List Bool) (t : List (Option ℕ)) (k : �
     mems = h.mems;
     assumes = h.assumes;
     each = h.each;
-    regs = λ i q low e. by i q low e (same_or_not i k);
-    rest = λ i past. h.rest i (omega (arith, past));
+    regs = λ i q low on e. by i q low on e (same_or_not i k);
+    kept = λ i not. h.kept i (λ low on. not (omega (arith, low)) on);
   }
     where
-      by : (i : ℕ) (q : Reg) → i < k + 1 → slice_get net.regs i ≡ Some q → (i ≡ k) ⊎ (i ≡ k → ⊥)
-          → slice_get b.regs i ≡ Some (with_next_node (next_of net marks t i q) q)
-      by i q low e (inl is) =
-          let same : r ≡ q = same_Some r q (sym at ∙ ap (slice_get net.regs) (sym is) ∙ e) in
-          let bit : is_set marks i ≡ false = set_is marks i false (ap (slice_get marks) is ∙ off) in
-          ap (slice_get b.regs) is ∙ here
-          ∙ (λ j. Some (with_next_node (length net.inputs + sym is j) (same j)))
-          ∙ ap (λ v. Some (with_next_node (if v then place t q.next else length net.inputs + i) q)) (sym bit)
-      by i q low e (inr other) = h.regs i q (omega (arith, low, other)) e
+      by : (i : ℕ) (q : Reg) → i < k + 1 → IsSet marks i → slice_get net.regs i ≡ Some q → (i ≡ k) ⊎ (i ≡ k → ⊥)
+          → slice_get b.regs i ≡ Some (with_next_node (place t q.next) q)
+      by i q low on e (inl is) = absurd (set_unset marks i k is off on)
+      by i q low on e (inr other) = h.regs i q (omega (arith, low, other)) on e
 
   -- the next register is marked
   pub nexts_set : (c : Netlist) → IsSet marks k → c ≡ record b { regs = with_next k (place t r.next) b.regs }
       → Keeps b c → HasNexts net marks t a c (k + 1)
-  nexts_set c on e keeps = record {
+  nexts_set c set e keeps = record {
     same = same_on a b c h.same (record {
       nodes = ap (λ m. m.nodes) e;
       inputs = ap (λ m. m.inputs) e;
@@ -126,38 +123,35 @@ module _ (net a b : Netlist) (marks : List Bool) (t : List (Option ℕ)) (k : �
     mems = ap (λ m. m.mems) e ∙ h.mems;
     assumes = ap (λ m. m.assumes) e ∙ h.assumes;
     each = ap (λ m. length m.regs) e ∙ next_length k (place t r.next) b.regs ∙ h.each;
-    regs = λ i q low f. ap (λ m. slice_get m.regs i) e ∙ by i q low f (same_or_not i k);
-    rest = λ i past.
-        let other : i ≡ k → ⊥ = λ is. omega (arith, past, is) in
+    regs = λ i q low on f. ap (λ m. slice_get m.regs i) e ∙ by i q low on f (same_or_not i k);
+    kept = λ i not.
+        let other : i ≡ k → ⊥ = λ is. not (omega (arith, is)) (ap (slice_get marks) is ∙ set) in
         ap (λ m. slice_get m.regs i) e ∙ next_there k (place t r.next) i b.regs other
-        ∙ h.rest i (omega (arith, past));
+        ∙ h.kept i (λ low on. not (omega (arith, low)) on);
   }
     where
-      by : (i : ℕ) (q : Reg) → i < k + 1 → slice_get net.regs i ≡ Some q → (i ≡ k) ⊎ (i ≡ k → ⊥)
-          → slice_get (with_next k (place t r.next) b.regs) i
-          ≡ Some (with_next_node (next_of net marks t i q) q)
-      by i q low f (inl is) =
+      by : (i : ℕ) (q : Reg) → i < k + 1 → IsSet marks i → slice_get net.regs i ≡ Some q → (i ≡ k) ⊎ (i ≡ k → ⊥)
+          → slice_get (with_next k (place t r.next) b.regs) i ≡ Some (with_next_node (place t q.next) q)
+      by i q low on f (inl is) =
           let same : r ≡ q = same_Some r q (sym at ∙ ap (slice_get net.regs) (sym is) ∙ f) in
-          let bit : is_set marks i ≡ true = set_is marks i true (ap (slice_get marks) is ∙ on) in
           ap (slice_get (with_next k (place t r.next) b.regs)) is
-          ∙ next_here k (place t r.next) b.regs (with_next_node (length net.inputs + k) r) here
+          ∙ next_here k (place t r.next) b.regs (with_next_node own.0 r) here
           ∙ ap (λ z. Some (with_next_node (place t z.next) z)) same
-          ∙ ap (λ v. Some (with_next_node (if v then place t q.next else length net.inputs + i) q)) (sym bit)
-      by i q low f (inr other) =
-          next_there k (place t r.next) i b.regs other ∙ h.regs i q (omega (arith, low, other)) f
+      by i q low on f (inr other) =
+          next_there k (place t r.next) i b.regs other ∙ h.regs i q (omega (arith, low, other)) on f
 
   reg_wide : reg_width b k ≡ r.width
-  reg_wide = index_map (λ (q : Reg). q.width) b.regs k (with_next_node (length net.inputs + k) r) here
+  reg_wide = index_map (λ (q : Reg). q.width) b.regs k (with_next_node own.0 r) here
 
   -- its next node fits
   pub next_node : (nodes : List Bool) → IsNet net → AreCopied net nodes a t → AreNextsPlaced net marks t
       → IsSet marks k → IsNodeOf b (reg_width b k) (place t r.next)
   next_node nodes whole copied placed on =
       let p = placed k r on at in
-      let own : IsNodeOf net r.width r.next = (all_in (IsRegOf net) net.regs r whole.regs (k, at)).next in
+      let old : IsNodeOf net r.width r.next = (all_in (IsRegOf net) net.regs r whole.regs (k, at)).next in
       let new : IsNodeOf b (width_at net r.next) p.0 =
       node_same a b (width_at net r.next) p.0 h.same (copied.widths r.next p.0 p.1) in
-      let wide : width_at net r.next ≡ reg_width b k = own.1 ∙ sym reg_wide in
+      let wide : width_at net r.next ≡ reg_width b k = old.1 ∙ sym reg_wide in
       subst (λ w. IsNodeOf b w (place t r.next)) wide
       (subst (λ j. IsNodeOf b (width_at net r.next) j) (sym (place_is t r.next p.0 p.1)) new)
 
@@ -261,6 +255,13 @@ bare_get [] m x e = absurd (true≢false (ap is_none e))
 bare_get (y ∷ ms) zero x e = ap (λ z. Some (without_writes z)) (same_Some y x e)
 bare_get (y ∷ ms) (suc m) x e = bare_get ms m x e
 
+pub bare_at : (net a : Netlist) → a.mems ≡ map without_writes net.mems → (m : ℕ) (x : Mem)
+    → slice_get net.mems m ≡ Some x → slice_get a.mems m ≡ Some (without_writes x)
+bare_at net a e m x f = ap (λ ms. slice_get ms m) e ∙ bare_get net.mems m x f
+
+pub all_bare : (net a : Netlist) (marks : List Bool) → a.mems ≡ map without_writes net.mems → AreBare net marks a
+all_bare net a marks e m x on f = bare_at net a e m x f
+
 pub writes_none : (net a b : Netlist) (marks : List Bool) (t : List (Option ℕ)) → b ≡ a
     → HasWrites net marks t a b 0
 writes_none net a b marks t e =
@@ -270,72 +271,67 @@ writes_none net a b marks t e =
       regs = refl;
       assumes = refl;
       each = refl;
-      mems = λ m x low f. absurd (omega (arith, low));
-      rest = λ m past. refl;
+      mems = λ m x low on f. absurd (omega (arith, low));
+      kept = λ m not. refl;
     })
 
 module _ (net a b : Netlist) (marks : List Bool) (t : List (Option ℕ)) (k : ℕ) (x : Mem)
-    (bare : a.mems ≡ map without_writes net.mems) (h : HasWrites net marks t a b k)
-    (at : slice_get net.mems k ≡ Some x) where
-  mem_here : slice_get b.mems k ≡ Some (without_writes x)
-  mem_here = h.rest k (omega arith) ∙ ap (λ ms. slice_get ms k) bare ∙ bare_get net.mems k x at
-
-  pub mem_there : k < length b.mems
-  mem_there = get_less b.mems k (without_writes x) mem_here
-
-  pub mem_width_is : mem_width b k ≡ x.width
-  mem_width_is = index_map (λ (y : Mem). y.width) b.mems k (without_writes x) mem_here
-
+    (bare : AreBare net marks a) (h : HasWrites net marks t a b k) (at : slice_get net.mems k ≡ Some x) where
   pub writes_skip : slice_get marks k ≡ Some false → HasWrites net marks t a b (k + 1)
   writes_skip off = record {
     same = h.same;
     regs = h.regs;
     assumes = h.assumes;
     each = h.each;
-    mems = λ m y low e. by m y low e (same_or_not m k);
-    rest = λ m past. h.rest m (omega (arith, past));
+    mems = λ m y low on e. by m y low on e (same_or_not m k);
+    kept = λ m not. h.kept m (λ low on. not (omega (arith, low)) on);
   }
     where
-      by : (m : ℕ) (y : Mem) → m < k + 1 → slice_get net.mems m ≡ Some y → (m ≡ k) ⊎ (m ≡ k → ⊥)
-          → slice_get b.mems m ≡ Some (with_writes_of t (is_set marks m) y)
-      by m y low e (inl is) =
-          let same : x ≡ y = same_Some x y (sym at ∙ ap (slice_get net.mems) (sym is) ∙ e) in
-          let bit : is_set marks m ≡ false = set_is marks m false (ap (slice_get marks) is ∙ off) in
-          ap (slice_get b.mems) is ∙ mem_here ∙ ap (λ z. Some (without_writes z)) same
-          ∙ ap (λ v. Some (with_writes_of t v y)) (sym bit)
-      by m y low e (inr other) = h.mems m y (omega (arith, low, other)) e
+      by : (m : ℕ) (y : Mem) → m < k + 1 → IsSet marks m → slice_get net.mems m ≡ Some y → (m ≡ k) ⊎ (m ≡ k → ⊥)
+          → slice_get b.mems m ≡ Some (record y { writes = map (renamed_write t) y.writes })
+      by m y low on e (inl is) = absurd (set_unset marks m k is off on)
+      by m y low on e (inr other) = h.mems m y (omega (arith, low, other)) on e
 
-  pub writes_set : (c : Netlist) → IsSet marks k → AddsWrites b c k (map (renamed_write t) x.writes)
-      → HasWrites net marks t a c (k + 1)
-  writes_set c on adds = record {
-    same = same_on a b c h.same adds.same;
-    regs = adds.regs ∙ h.regs;
-    assumes = adds.assumes ∙ h.assumes;
-    each = adds.each ∙ h.each;
-    mems = λ m y low e. by m y low e (same_or_not m k);
-    rest = λ m past.
-        let other : m ≡ k → ⊥ = λ is. omega (arith, past, is) in
-        adds.others m other ∙ h.rest m (omega (arith, past));
-  }
-    where
-      by : (m : ℕ) (y : Mem) → m < k + 1 → slice_get net.mems m ≡ Some y → (m ≡ k) ⊎ (m ≡ k → ⊥)
-          → slice_get c.mems m ≡ Some (with_writes_of t (is_set marks m) y)
-      by m y low e (inl is) =
-          let same : x ≡ y = same_Some x y (sym at ∙ ap (slice_get net.mems) (sym is) ∙ e) in
-          let bit : is_set marks m ≡ true = set_is marks m true (ap (slice_get marks) is ∙ on) in
-          ap (slice_get c.mems) is ∙ adds.here (without_writes x) mem_here
-          ∙ ap {A = Mem} (λ z. Some (record z { writes = map (renamed_write t) z.writes })) same
-          ∙ ap (λ v. Some (with_writes_of t v y)) (sym bit)
-      by m y low e (inr other) = adds.others m other ∙ h.mems m y (omega (arith, low, other)) e
+  -- the next memory is marked
+  module _ (set : IsSet marks k) where
+    mem_here : slice_get b.mems k ≡ Some (without_writes x)
+    mem_here = h.kept k (λ low on. omega (arith, low)) ∙ bare k x set at
 
-  -- the writes of the next memory fit
-  pub mem_writes_fit : (nodes : List Bool) → IsNet net → AreCopied net nodes a t → AreWritesPlaced t x.writes
-      → AreWritesFit b (mem_width b k) t x.writes
-  mem_writes_fit nodes whole copied placed w i =
-      let own : IsMemOf net x = all_in (IsMemOf net) net.mems x whole.mems (k, at) in
-      let fits = all_in (IsWriteOf net x.width) x.writes w own.writes i in
-      subst (λ v. IsWriteOf b v (renamed_write t w)) (sym mem_width_is)
-      (write_fits net b nodes t x.width w (copied_same net a b nodes t h.same copied) (placed w i) fits)
+    pub mem_there : k < length b.mems
+    mem_there = get_less b.mems k (without_writes x) mem_here
+
+    mem_width_is : mem_width b k ≡ x.width
+    mem_width_is = index_map (λ (y : Mem). y.width) b.mems k (without_writes x) mem_here
+
+    pub writes_set : (c : Netlist) → AddsWrites b c k (map (renamed_write t) x.writes)
+        → HasWrites net marks t a c (k + 1)
+    writes_set c adds = record {
+      same = same_on a b c h.same adds.same;
+      regs = adds.regs ∙ h.regs;
+      assumes = adds.assumes ∙ h.assumes;
+      each = adds.each ∙ h.each;
+      mems = λ m y low on e. by m y low on e (same_or_not m k);
+      kept = λ m not.
+          let other : m ≡ k → ⊥ = λ is. not (omega (arith, is)) (ap (slice_get marks) is ∙ set) in
+          adds.others m other ∙ h.kept m (λ low on. not (omega (arith, low)) on);
+    }
+      where
+        by : (m : ℕ) (y : Mem) → m < k + 1 → IsSet marks m → slice_get net.mems m ≡ Some y → (m ≡ k) ⊎ (m ≡ k → ⊥)
+            → slice_get c.mems m ≡ Some (record y { writes = map (renamed_write t) y.writes })
+        by m y low on e (inl is) =
+            let same : x ≡ y = same_Some x y (sym at ∙ ap (slice_get net.mems) (sym is) ∙ e) in
+            ap (slice_get c.mems) is ∙ adds.here (without_writes x) mem_here
+            ∙ ap {A = Mem} (λ z. Some (record z { writes = map (renamed_write t) z.writes })) same
+        by m y low on e (inr other) = adds.others m other ∙ h.mems m y (omega (arith, low, other)) on e
+
+    -- its writes fit
+    pub mem_writes_fit : (nodes : List Bool) → IsNet net → AreCopied net nodes a t → AreWritesPlaced t x.writes
+        → AreWritesFit b (mem_width b k) t x.writes
+    mem_writes_fit nodes whole copied placed w i =
+        let own : IsMemOf net x = all_in (IsMemOf net) net.mems x whole.mems (k, at) in
+        let fits = all_in (IsWriteOf net x.width) x.writes w own.writes i in
+        subst (λ v. IsWriteOf b v (renamed_write t w)) (sym mem_width_is)
+        (write_fits net b nodes t x.width w (copied_same net a b nodes t h.same copied) (placed w i) fits)
 
 -- ---- assumptions
 
@@ -405,20 +401,20 @@ assumes_more net a b c t k id at h is p e keeps = record {
 -- ---- each step, whether marked or not
 
 pub nexts_step : (net a b c : Netlist) (marks : List Bool) (t : List (Option ℕ)) (k : ℕ) (r : Reg) (v : Bool)
-    → IsFrame net a → HasNexts net marks t a b k → slice_get net.regs k ≡ Some r → slice_get marks k ≡ Some v
+    → HasRegs net a → HasNexts net marks t a b k → slice_get net.regs k ≡ Some r → slice_get marks k ≡ Some v
     → (v ≡ false → c ≡ b) → (v ≡ true → c ≡ record b { regs = with_next k (place t r.next) b.regs })
     → (v ≡ true → Keeps b c) → HasNexts net marks t a c (k + 1)
-nexts_step net a b c marks t k r true frame h at on skip set keeps =
-    nexts_set net a b marks t k r frame h at c on (set refl) (keeps refl)
-nexts_step net a b c marks t k r false frame h at off skip set keeps =
-    subst (λ m. HasNexts net marks t a m (k + 1)) (sym (skip refl)) (nexts_skip net a b marks t k r frame h at off)
+nexts_step net a b c marks t k r true regs h at on skip set keeps =
+    nexts_set net a b marks t k r regs h at c on (set refl) (keeps refl)
+nexts_step net a b c marks t k r false regs h at off skip set keeps =
+    subst (λ m. HasNexts net marks t a m (k + 1)) (sym (skip refl)) (nexts_skip net a b marks t k r regs h at off)
 
 pub writes_step : (net a b c : Netlist) (marks : List Bool) (t : List (Option ℕ)) (k : ℕ) (x : Mem) (v : Bool)
-    → a.mems ≡ map without_writes net.mems → HasWrites net marks t a b k → slice_get net.mems k ≡ Some x
+    → AreBare net marks a → HasWrites net marks t a b k → slice_get net.mems k ≡ Some x
     → slice_get marks k ≡ Some v → (v ≡ false → c ≡ b)
     → (v ≡ true → AddsWrites b c k (map (renamed_write t) x.writes)) → HasWrites net marks t a c (k + 1)
 writes_step net a b c marks t k x true bare h at on skip set =
-    writes_set net a b marks t k x bare h at c on (set refl)
+    writes_set net a b marks t k x bare h at on c (set refl)
 writes_step net a b c marks t k x false bare h at off skip set =
     subst (λ m. HasWrites net marks t a m (k + 1)) (sym (skip refl)) (writes_skip net a b marks t k x bare h at off)
 

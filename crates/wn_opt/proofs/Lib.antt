@@ -10,6 +10,7 @@ pub mod Counting
 pub mod Equal
 pub mod Folds
 pub mod Framing
+pub mod Growing
 pub mod In
 pub mod Joining
 pub mod Knowns

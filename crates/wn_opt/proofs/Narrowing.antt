@@ -152,7 +152,7 @@ module _ (net a : Netlist) (marks : List Bool) (inputs : List ℕ) (t : List (Op
     -- an operator behind the others
     module _ (flat : IsFlat net) (placed : ArePlaced t (operands x)) (op : IsOperator x) where
       pub narrowed_fits : IsFitting (shape_of a) (widths_of a) (renamed t x)
-      narrowed_fits = operator_fits net a t x whole (flat_mems net a flat h.flat) h.widths placed at op
+      narrowed_fits = operator_fits net a t (length t) x whole (flat_mems net a flat h.flat) h.widths placed at op
 
       abbrev last : ℕ
       last = length a.nodes
@@ -186,7 +186,7 @@ module _ (net a : Netlist) (marks : List Bool) (inputs : List ℕ) (t : List (Op
                 let o = h.widths id k p in (omega (arith, o.0, more.longer), more.widths k o.0 ∙ o.1)) (
                   there,
                   built.width
-                      ∙ operator_width net a t x whole (flat_mems net a flat h.flat) h.widths placed at op,
+                      ∙ operator_width net a t (length t) x whole (flat_mems net a flat h.flat) h.widths placed at op,
                 );
             input_widths = h.input_widths;
             there = h.there;

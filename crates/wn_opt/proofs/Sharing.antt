@@ -210,7 +210,7 @@ module _ (net a : Netlist) (marks : List Bool) (t : List (Option ℕ)) (x : Node
     (flat : IsFlat net) (h : AreShared net marks a t) (placed : ArePlaced t (operands x))
     (at : slice_get net.nodes (length t) ≡ Some x) (op : IsOperator x) where
   pub shared_fits : IsFitting (shape_of a) (widths_of a) (renamed t x)
-  shared_fits = operator_fits net a t x whole (flat_mems net a flat h.flat) h.widths placed at op
+  shared_fits = operator_fits net a t (length t) x whole (flat_mems net a flat h.flat) h.widths placed at op
 
   -- what a call for a renamed operator answers stands for it
   pub next_operator : (b : Netlist) (id : ℕ) → IsNet a → AddsNodes a b
@@ -224,7 +224,7 @@ module _ (net a : Netlist) (marks : List Bool) (t : List (Option ℕ)) (x : Node
     keeps = adds.keeps;
     wide = (
       shows.node.0,
-      shows.node.1 ∙ operator_width net a t x whole (flat_mems net a flat h.flat) h.widths placed at op,
+      shows.node.1 ∙ operator_width net a t (length t) x whole (flat_mems net a flat h.flat) h.widths placed at op,
     );
     value = λ g is.
         shows.value g (flat_given net a flat h.flat h.inputs g is)

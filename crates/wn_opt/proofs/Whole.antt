@@ -1,9 +1,10 @@
 -- The part of a net that some nodes need, from its steps, and its runs.
-use Rattle.std.specs.Prelude.{◌≡◌, refl, ◌↔◌, ℕ, ◌+◌, ◌<◌, Bool, true, false, List, [], ◌++◌, length, map, take}
-use Rattle.std.specs.Prelude.{Some, Option, slice_get, unwrap_or, if◌then◌else◌}
+use Rattle.std.specs.Prelude.{◌≡◌, refl, ◌↔◌, ℕ, ◌+◌, ◌<◌, Bool, true, false, List, ◌++◌, length, map, take}
+use Rattle.std.specs.Prelude.{Some, Option, slice_get}
 use Rattle.std.specs.List.{AllByRecursion}
-use Rattle.std.proofs.Common.{ap, sym, ◌∙◌, arith, subst}
+use Rattle.std.proofs.Common.{ap, sym, ◌∙◌, arith, subst, true≢false, ◌⊎◌, inl, inr}
 use Rattle.std.proofs.lemmas.List.{length-map, take_all}
+use Rattle.std.proofs.lemmas.Option.{same_Some}
 use Rattle.fv_graph.proofs.Lists.{get_less, get_some}
 use Rattle.wn_net.specs.declared.parts.Reg.{Reg}
 use Rattle.wn_net.specs.declared.parts.Mem.{Mem}
@@ -17,29 +18,18 @@ use Rattle.wn_opt.specs.Cone.{IsPlace, HasPlace, place, places_of, renamed_write
 use Rattle.wn_opt.specs.Cone.{AreMetOf, KeepsRuns}
 use Rattle.wn_opt.specs.Marks.{IsSet, AreNeeds, AreClosed}
 use Rattle.wn_opt.specs.Parts.{AreCopied, AreMemsPlaced, AreNextsPlaced, HasAssumes, HasNexts, HasSameNodes, HasWrites}
-use Rattle.wn_opt.specs.Parts.{IsFrame, is_set, next_of, with_next_node, with_writes_of, without_writes}
+use Rattle.wn_opt.specs.Parts.{IsFrame, IsFront, with_next_node, without_writes}
 use Rattle.wn_opt.proofs.Assumed.{met_of, all_of}
 use Rattle.wn_opt.proofs.Begun.{map_like}
 use Rattle.wn_opt.proofs.Choices.{HasSameState, same_choices, same_given, same_inputs, same_start}
 use Rattle.wn_opt.proofs.Copying.{place_is}
-use Rattle.wn_opt.proofs.Joining.{same_on, copied_same}
+use Rattle.wn_opt.proofs.Framing.{front_of}
+use Rattle.wn_opt.proofs.Joining.{bare_at, copied_same, node_same, same_on}
 use Rattle.wn_opt.proofs.Running as running
 use Rattle.wn_opt.proofs.Running.{IsSameReg, IsSameMem, run_values}
 use Rattle.wn_opt.proofs.Same.{IsCopy}
 
 -- ---- what the marks say
-
--- a mark is set exactly where a fact holds
-marked_bit : (P : Type 0) (bs : List Bool) (i : ℕ) → (IsSet bs i ↔ P) → P → is_set bs i ≡ true
-marked_bit P bs i h p = ap (λ o. unwrap_or o false) (h.1 p)
-
-unmarked_bit : (P : Type 0) (bs : List Bool) (i : ℕ) → (IsSet bs i ↔ P) → i < length bs → (P → ⊥)
-    → is_set bs i ≡ false
-unmarked_bit P bs i h less not = let x = get_some bs i less in off x.0 x.1
-  where
-    off : (b : Bool) → slice_get bs i ≡ Some b → is_set bs i ≡ false
-    off true e = absurd (not (h.0 e))
-    off false e = ap (λ o. unwrap_or o false) e
 
 pub needs_closed : (net : Netlist) (roots : List ℕ) (m : Marks) → AreNeeds net roots m → AreClosed net m.nodes.items
 needs_closed net roots m h user a x on e i = (h.nodes a).1 (operand user a x ((h.nodes user).0 on) e i)
@@ -65,6 +55,59 @@ module _ (net part : Netlist) (roots : List ℕ) (m : Marks) (t : List (Option �
 
 -- ---- the answered net
 
+-- from what became of its registers, memories and assumptions
+module _ (net : Netlist) (roots : List ℕ) (m : Marks) (t : List (Option ℕ)) (d : Netlist)
+    (needs : AreNeeds net roots m) (front : IsFront net d) (copied : AreCopied net m.nodes.items d t)
+    (each : length t ≡ length net.nodes) (inputs : d.inputs ≡ net.inputs) (regs_each : length d.regs ≡ length net.regs)
+    (regs : (i : ℕ) (r : Reg) → slice_get net.regs i ≡ Some r → KeepsReg net roots d t i r)
+    (mems_each : length d.mems ≡ length net.mems)
+    (mems : (k : ℕ) (x : Mem) → slice_get net.mems k ≡ Some x → KeepsMem net roots d t k x)
+    (assumes : d.assumes ≡ places_of t net.assumes) where
+  pub cone_of : IsCone net roots d t
+  cone_of = record {
+    each = each;
+    needed = λ id.
+        (need_place net d roots m t needs copied each id, place_needed net d roots m t needs copied each id);
+    nodes = copied.nodes;
+    widths = λ id at p. (copied.widths id at p).1;
+    input_nodes = front.input_nodes;
+    reg_nodes = front.reg_nodes;
+    others = copied.others;
+    inputs = inputs;
+    regs_each = regs_each;
+    regs = regs;
+    mems_each = mems_each;
+    mems = mems;
+    assumes = assumes;
+  }
+
+-- a front stays while next values, writes and assumptions are joined
+pub front_same : (net a b : Netlist) → IsFront net a → HasSameNodes a b
+    → map (λ m. m.width) b.mems ≡ map (λ m. m.width) net.mems → IsFront net b
+front_same net a b h same widths = record {
+  input_nodes = λ i less. ap (λ xs. slice_get xs i) same.nodes ∙ h.input_nodes i less;
+  reg_nodes = λ i less. ap (λ xs. slice_get xs (length net.inputs + i)) same.nodes ∙ h.reg_nodes i less;
+  input_widths = λ i x e. node_same a b x.width i same (h.input_widths i x e);
+  reg_widths = λ i r e. node_same a b r.width (length net.inputs + i) same (h.reg_widths i r e);
+  mem_widths = widths;
+}
+
+-- a marked register has its next node
+pub reg_joined : (net a b d : Netlist) (marks : List Bool) (t : List (Option ℕ)) (i : ℕ) (r : Reg)
+    → HasNexts net marks t a b (length net.regs) → d.regs ≡ b.regs → IsSet marks i → slice_get net.regs i ≡ Some r
+    → slice_get d.regs i ≡ Some (with_next_node (place t r.next) r)
+reg_joined net a b d marks t i r nexts same on e =
+    ap (λ rs. slice_get rs i) same ∙ nexts.regs i r (get_less net.regs i r e) on e
+
+-- which of the two a mark is
+pub set_or_not : (P : Type 0) (bs : List Bool) (i : ℕ) → (IsSet bs i ↔ P) → i < length bs
+    → (IsSet bs i × P) ⊎ ((slice_get bs i ≡ Some false) × (P → ⊥))
+set_or_not P bs i h less = let x = get_some bs i less in by x.0 x.1
+  where
+    by : (b : Bool) → slice_get bs i ≡ Some b → (IsSet bs i × P) ⊎ ((slice_get bs i ≡ Some false) × (P → ⊥))
+    by true e = inl (e, h.0 e)
+    by false e = inr (e, λ p. true≢false (same_Some true false (sym (h.1 p) ∙ e)))
+
 module _ (net : Netlist) (roots : List ℕ) (m : Marks) (t : List (Option ℕ)) (a b c d : Netlist)
     (needs : AreNeeds net roots m) (frame : IsFrame net a) (copied : AreCopied net m.nodes.items a t)
     (each : length t ≡ length net.nodes) (nexts : HasNexts net m.regs.items t a b (length net.regs))
@@ -79,67 +122,80 @@ module _ (net : Netlist) (roots : List ℕ) (m : Marks) (t : List (Option ℕ)) 
   keeps_reg : (i : ℕ) (r : Reg) → slice_get net.regs i ≡ Some r → KeepsReg net roots d t i r
   keeps_reg i r e =
       let less = get_less net.regs i r e in
-      let inside : i < length m.regs.items = omega (arith, less, needs.each_reg) in
-      record {
-        reg = with_next_node (next_of net m.regs.items t i r) r;
-        there = ap (λ rs. slice_get rs i) (assumes.regs ∙ writes.regs) ∙ nexts.regs i r less e;
+      by (set_or_not (IsNeededReg net roots i) m.regs.items i (needs.regs i) (omega (arith, less, needs.each_reg)))
+    where
+      by : (IsSet m.regs.items i × IsNeededReg net roots i)
+          ⊎ ((slice_get m.regs.items i ≡ Some false) × (IsNeededReg net roots i → ⊥)) → KeepsReg net roots d t i r
+      by (inl q) = record {
+        reg = with_next_node (place t r.next) r;
+        there = reg_joined net a b d m.regs.items t i r nexts (assumes.regs ∙ writes.regs) q.0 e;
         width = refl;
         init = refl;
         next = λ need.
-            let bit = marked_bit (IsNeededReg net roots i) m.regs.items i (needs.regs i) need in
             let p = need_place net a roots m t needs copied each r.next (next need.0 i r need.1 need.2 e) in
-            let is : next_of net m.regs.items t i r ≡ p.0 =
-            ap (λ v. if v then place t r.next else length net.inputs + i) bit ∙ place_is t r.next p.0 p.1 in
-            subst (λ k. IsPlace t r.next k) (sym is) p.1;
-        own = λ not.
-            let bit = unmarked_bit (IsNeededReg net roots i) m.regs.items i (needs.regs i) inside not in
-            let is : next_of net m.regs.items t i r ≡ length net.inputs + i =
-            ap (λ v. if v then place t r.next else length net.inputs + i) bit in
-            ap (slice_get d.nodes) is ∙ ap (λ xs. slice_get xs (length net.inputs + i)) same.nodes
-            ∙ frame.reg_nodes i less;
+            subst (λ k. IsPlace t r.next k) (sym (place_is t r.next p.0 p.1)) p.1;
+        own = λ not. absurd (not q.1);
       }
+      by (inr q) = record {
+        reg = with_next_node (length net.inputs + i) r;
+        there =
+            ap (λ rs. slice_get rs i) (assumes.regs ∙ writes.regs)
+            ∙ nexts.kept i (λ low on. q.1 ((needs.regs i).0 on)) ∙ frame.regs i r e;
+        width = refl;
+        init = refl;
+        next = λ need. absurd (q.1 need);
+        own = λ not.
+            ap (λ xs. slice_get xs (length net.inputs + i)) same.nodes ∙ frame.reg_nodes i (get_less net.regs i r e);
+      }
+
+  bare : (k : ℕ) (x : Mem) → slice_get net.mems k ≡ Some x → slice_get b.mems k ≡ Some (without_writes x)
+  bare k x e = ap (λ ms. slice_get ms k) nexts.mems ∙ bare_at net a frame.mems k x e
 
   keeps_mem : (k : ℕ) (x : Mem) → slice_get net.mems k ≡ Some x → KeepsMem net roots d t k x
   keeps_mem k x e =
       let less = get_less net.mems k x e in
-      let inside : k < length m.mems.items = omega (arith, less, needs.each_mem) in
-      record {
-        mem = with_writes_of t (is_set m.mems.items k) x;
-        there = ap (λ ms. slice_get ms k) assumes.mems ∙ writes.mems k x less e;
+      by (set_or_not (IsNeededMem net roots k) m.mems.items k (needs.mems k) (omega (arith, less, needs.each_mem)))
+    where
+      by : (IsSet m.mems.items k × IsNeededMem net roots k)
+          ⊎ ((slice_get m.mems.items k ≡ Some false) × (IsNeededMem net roots k → ⊥)) → KeepsMem net roots d t k x
+      by (inl q) = record {
+        mem = record x { writes = map (renamed_write t) x.writes };
+        there =
+            ap (λ ms. slice_get ms k) assumes.mems ∙ writes.mems k x (get_less net.mems k x e) q.0 e;
         width = refl;
         words = refl;
         init = refl;
-        writes = λ need.
-            ap (λ v. if v then map (renamed_write t) x.writes else [])
-            (marked_bit (IsNeededMem net roots k) m.mems.items k (needs.mems k) need);
-        none = λ not.
-            ap (λ v. if v then map (renamed_write t) x.writes else [])
-            (unmarked_bit (IsNeededMem net roots k) m.mems.items k (needs.mems k) inside not);
+        writes = λ need. refl;
+        none = λ not. absurd (not q.1);
+      }
+      by (inr q) = record {
+        mem = without_writes x;
+        there =
+            ap (λ ms. slice_get ms k) assumes.mems ∙ writes.kept k (λ low on. q.1 ((needs.mems k).0 on)) ∙ bare k x e;
+        width = refl;
+        words = refl;
+        init = refl;
+        writes = λ need. absurd (q.1 need);
+        none = λ not. refl;
       }
 
+  mems_each : length d.mems ≡ length net.mems
+  mems_each =
+      ap length assumes.mems ∙ writes.each ∙ ap length (nexts.mems ∙ frame.mems) ∙ length-map net.mems without_writes
+
+  mem_widths : map (λ m. m.width) d.mems ≡ map (λ m. m.width) net.mems
+  mem_widths = map_like (λ (x : Mem). x.width) net.mems d.mems mems_each (λ i x e.
+      let q = keeps_mem i x e in record { item = q.mem; there = q.there; same = q.width })
+
   pub is_cone : IsCone net roots d t
-  is_cone = record {
-    each = each;
-    needed = λ id.
-        (need_place net a roots m t needs copied each id, place_needed net a roots m t needs copied each id);
-    nodes = last.nodes;
-    widths = λ id at p. (last.widths id at p).1;
-    input_nodes = λ i less. ap (λ xs. slice_get xs i) same.nodes ∙ frame.input_nodes i less;
-    reg_nodes = λ i less.
-        ap (λ xs. slice_get xs (length net.inputs + i)) same.nodes ∙ frame.reg_nodes i less;
-    others = last.others;
-    inputs = same.inputs ∙ frame.inputs;
-    regs_each = ap length (assumes.regs ∙ writes.regs) ∙ nexts.each ∙ frame.regs_each;
-    regs = keeps_reg;
-    mems_each =
-        ap length assumes.mems ∙ writes.each ∙ ap length (nexts.mems ∙ frame.mems) ∙ length-map net.mems without_writes;
-    mems = keeps_mem;
-    assumes =
-        assumes.assumes
-        ∙ ap (λ xs. xs ++ places_of t (take (length net.assumes) net.assumes))
-        (writes.assumes ∙ nexts.assumes ∙ frame.assumes)
-        ∙ ap (places_of t) (take_all (length net.assumes) net.assumes (omega arith));
-  }
+  is_cone =
+      cone_of net roots m t d needs (front_same net a d (front_of net a frame) same mem_widths) last each
+      (same.inputs ∙ frame.inputs) (ap length (assumes.regs ∙ writes.regs) ∙ nexts.each ∙ frame.regs_each) keeps_reg
+      mems_each keeps_mem
+      (assumes.assumes
+      ∙ ap (λ xs. xs ++ places_of t (take (length net.assumes) net.assumes))
+      (writes.assumes ∙ nexts.assumes ∙ frame.assumes)
+      ∙ ap (places_of t) (take_all (length net.assumes) net.assumes (omega arith)))
 
 -- ---- its runs
 

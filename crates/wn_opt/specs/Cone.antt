@@ -133,6 +133,19 @@ pub record IsCone (net : Netlist) (roots : List ℕ) (part : Netlist) (table : L
   pub mems : (m : ℕ) (x : Mem) → slice_get net.mems m ≡ Some x → KeepsMem net roots part table m x
   pub assumes : part.assumes ≡ places_of table net.assumes
 
+-- ---- a part that grows
+
+-- each node that has a new number has it still
+abbrev pub KeepsPlaces : List (Option ℕ) → List (Option ℕ) → Type 0
+KeepsPlaces old new = (id at : ℕ) → IsPlace old id at → IsPlace new id at
+
+-- The nodes of a smaller part stand in a larger one under their numbers, and what they are the new numbers of has these
+-- still.
+pub record StandsBehind (part : Netlist) (table : List (Option ℕ)) (larger : Netlist)
+    (larger_table : List (Option ℕ)) : Type 0 where
+  pub nodes : (at : ℕ) (x : Node) → slice_get part.nodes at ≡ Some x → slice_get larger.nodes at ≡ Some x
+  pub places : KeepsPlaces table larger_table
+
 -- ---- its runs
 
 -- the kept assumptions are met in a cycle of the old net

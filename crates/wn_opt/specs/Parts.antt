@@ -1,6 +1,6 @@
 -- Between functions: A part of a net that is being made (rule of this project).
 use Rattle.std.specs.Prelude.{◌≡◌, ℕ, ◌+◌, ◌<◌, ◌≤◌, Bool, false, List, [], ◌++◌, Some, Option}
-use Rattle.std.specs.Prelude.{length, map, take, slice_get, unwrap_or, if◌then◌else◌}
+use Rattle.std.specs.Prelude.{length, map, take, slice_get}
 use Rattle.wn_net.specs.declared.node.Node.{Node}
 use Rattle.wn_net.specs.declared.node.Node.TheVariants as n
 use Rattle.wn_net.specs.declared.parts.Input.{Input}
@@ -8,14 +8,11 @@ use Rattle.wn_net.specs.declared.parts.Reg.{Reg}
 use Rattle.wn_net.specs.declared.parts.Mem.{Mem}
 use Rattle.wn_net.specs.declared.parts.MemWrite.{MemWrite}
 use Rattle.wn_net.specs.Net.{Netlist, IsNodeOf, IsWriteOf, width_at}
-use Rattle.wn_opt.specs.Needed.{IsIn, write_nodes}
+use Rattle.wn_opt.specs.Needed.{IsIn, operands, write_nodes}
 use Rattle.wn_opt.specs.Cone.{IsPlace, HasPlace, place, places_of, renamed, renamed_write}
 use Rattle.wn_opt.specs.Marks.{IsSet}
 
 -- ---- inputs, registers and memories
-
-abbrev pub with_writes_of : List (Option ℕ) → Bool → Mem → Mem
-with_writes_of table kept m = record m { writes = if kept then map (renamed_write table) m.writes else [] }
 
 abbrev pub without_writes : Mem → Mem
 without_writes m = record m { writes = [] }
@@ -39,6 +36,14 @@ pub record HasParts (net part : Netlist) (inputs regs mems : ℕ) : Type 0 where
   pub mems_are : part.mems ≡ map without_writes (take mems net.mems)
   pub assumes_are : part.assumes ≡ []
 
+-- the node of each input and of each register is there with its width, and each memory has its width
+pub record IsFront (net part : Netlist) : Type 0 where
+  pub input_nodes : (i : ℕ) → i < length net.inputs → slice_get part.nodes i ≡ Some (n.Input i)
+  pub reg_nodes : (i : ℕ) → i < length net.regs → slice_get part.nodes (length net.inputs + i) ≡ Some (n.Reg i)
+  pub input_widths : (i : ℕ) (x : Input) → slice_get net.inputs i ≡ Some x → IsNodeOf part x.width i
+  pub reg_widths : (i : ℕ) (r : Reg) → slice_get net.regs i ≡ Some r → IsNodeOf part r.width (length net.inputs + i)
+  pub mem_widths : map (λ m. m.width) part.mems ≡ map (λ m. m.width) net.mems
+
 -- what of it stays while nodes are added
 pub record IsFrame (net part : Netlist) : Type 0 where
   pub input_nodes : (i : ℕ) → i < length net.inputs → slice_get part.nodes i ≡ Some (n.Input i)
@@ -54,16 +59,36 @@ pub record IsFrame (net part : Netlist) : Type 0 where
 
 -- ---- nodes
 
--- Of the first nodes the marked ones have new numbers, under which they stand, with their widths; behind the nodes of
--- inputs and registers stand no others.
-pub record AreCopied (net : Netlist) (marks : List Bool) (part : Netlist) (table : List (Option ℕ)) : Type 0 where
+-- nodes may be added behind the others, and nothing else is changed
+pub record AddsBehind (old new : Netlist) : Type 0 where
+  pub front : (at : ℕ) (x : Node) → slice_get old.nodes at ≡ Some x → slice_get new.nodes at ≡ Some x
+  pub widths : (width at : ℕ) → IsNodeOf old width at → IsNodeOf new width at
+  pub inputs : new.inputs ≡ old.inputs
+  pub regs : new.regs ≡ old.regs
+  pub mems : new.mems ≡ old.mems
+  pub assumes : new.assumes ≡ old.assumes
+
+-- no node has a new number
+abbrev pub HasNoPlaces : List (Option ℕ) → Type 0
+HasNoPlaces table = (id : ℕ) → HasPlace table id → ⊥
+
+-- Of the first so many nodes the marked ones have new numbers. Those that have new numbers are marked, and stand under
+-- them, with their widths; what they read has new numbers too; behind the nodes of inputs and registers stand no others.
+pub record AreCopiedTo (net : Netlist) (marks : List Bool) (part : Netlist) (table : List (Option ℕ))
+    (count : ℕ) : Type 0 where
   pub marked : (id : ℕ) → HasPlace table id → IsSet marks id
-  pub placed : (id : ℕ) → id < length table → IsSet marks id → HasPlace table id
+  pub placed : (id : ℕ) → id < count → IsSet marks id → HasPlace table id
   pub nodes : (id at : ℕ) (x : Node) → IsPlace table id at → slice_get net.nodes id ≡ Some x
       → slice_get part.nodes at ≡ Some (renamed table x)
   pub widths : (id at : ℕ) → IsPlace table id at → IsNodeOf part (width_at net id) at
   pub others : (at : ℕ) → length net.inputs + length net.regs ≤ at → at < length part.nodes
       → (id : ℕ) × IsPlace table id at
+  pub closed : (user at a : ℕ) (x : Node) → IsPlace table user at → slice_get net.nodes user ≡ Some x
+      → IsIn (operands x) a → HasPlace table a
+
+-- of all nodes
+abbrev pub AreCopied : Netlist → List Bool → Netlist → List (Option ℕ) → Type 0
+AreCopied net marks part table = AreCopiedTo net marks part table (length table)
 
 -- each of these has a new number
 abbrev pub ArePlaced : List (Option ℕ) → List ℕ → Type 0
@@ -74,29 +99,28 @@ AreBelow ids count = (id : ℕ) → IsIn ids id → id < count
 
 -- ---- next values, writes and assumptions
 
-abbrev pub is_set : List Bool → ℕ → Bool
-is_set marks i = unwrap_or (slice_get marks i) false
-
 -- all but registers, memories and assumptions is as before
 pub record HasSameNodes (old new : Netlist) : Type 0 where
   pub nodes : new.nodes ≡ old.nodes
   pub inputs : new.inputs ≡ old.inputs
   pub widths : (id : ℕ) → id < length old.nodes → width_at new id ≡ width_at old id
 
--- the next node of a register: that of its value where it is marked, and else its own
-abbrev pub next_of : Netlist → List Bool → List (Option ℕ) → ℕ → Reg → ℕ
-next_of net marks table i r = if is_set marks i then place table r.next else length net.inputs + i
+-- each register is there, with some next node
+abbrev pub HasRegs : Netlist → Netlist → Type 0
+HasRegs net part =
+    (i : ℕ) (r : Reg) → slice_get net.regs i ≡ Some r
+    → (next : ℕ) × (slice_get part.regs i ≡ Some (with_next_node next r))
 
--- the first registers have their next nodes
+-- the marked ones of the first registers have their next nodes, and the others are as before
 pub record HasNexts (net : Netlist) (marks : List Bool) (table : List (Option ℕ)) (old new : Netlist)
     (count : ℕ) : Type 0 where
   pub same : HasSameNodes old new
   pub mems : new.mems ≡ old.mems
   pub assumes : new.assumes ≡ old.assumes
   pub each : length new.regs ≡ length old.regs
-  pub regs : (i : ℕ) (r : Reg) → i < count → slice_get net.regs i ≡ Some r
-      → slice_get new.regs i ≡ Some (with_next_node (next_of net marks table i r) r)
-  pub rest : (i : ℕ) → count ≤ i → slice_get new.regs i ≡ slice_get old.regs i
+  pub regs : (i : ℕ) (r : Reg) → i < count → IsSet marks i → slice_get net.regs i ≡ Some r
+      → slice_get new.regs i ≡ Some (with_next_node (place table r.next) r)
+  pub kept : (i : ℕ) → (i < count → IsSet marks i → ⊥) → slice_get new.regs i ≡ slice_get old.regs i
 
 -- the next node of each marked register has a new number
 abbrev pub AreNextsPlaced : Netlist → List Bool → List (Option ℕ) → Type 0
@@ -126,16 +150,27 @@ abbrev pub AreMemsPlaced : Netlist → List Bool → List (Option ℕ) → Type 
 AreMemsPlaced net marks table =
     (m : ℕ) (x : Mem) → IsSet marks m → slice_get net.mems m ≡ Some x → AreWritesPlaced table x.writes
 
--- the first memories have their writes
+-- each marked memory is there, without writes
+abbrev pub AreBare : Netlist → List Bool → Netlist → Type 0
+AreBare net marks part =
+    (m : ℕ) (x : Mem) → IsSet marks m → slice_get net.mems m ≡ Some x → slice_get part.mems m ≡ Some (without_writes x)
+
+-- the marked ones of the first memories have their writes, and the others are as before
 pub record HasWrites (net : Netlist) (marks : List Bool) (table : List (Option ℕ)) (old new : Netlist)
     (count : ℕ) : Type 0 where
   pub same : HasSameNodes old new
   pub regs : new.regs ≡ old.regs
   pub assumes : new.assumes ≡ old.assumes
   pub each : length new.mems ≡ length old.mems
-  pub mems : (m : ℕ) (x : Mem) → m < count → slice_get net.mems m ≡ Some x
-      → slice_get new.mems m ≡ Some (with_writes_of table (is_set marks m) x)
-  pub rest : (m : ℕ) → count ≤ m → slice_get new.mems m ≡ slice_get old.mems m
+  pub mems : (m : ℕ) (x : Mem) → m < count → IsSet marks m → slice_get net.mems m ≡ Some x
+      → slice_get new.mems m ≡ Some (record x { writes = map (renamed_write table) x.writes })
+  pub kept : (m : ℕ) → (m < count → IsSet marks m → ⊥) → slice_get new.mems m ≡ slice_get old.mems m
+
+-- of the first so many marks those are set that are set in the first list and not in the second
+pub record AreFresh (marks before fresh : List Bool) (count : ℕ) : Type 0 where
+  pub each : length fresh ≡ count
+  pub set : (i : ℕ) → IsSet fresh i → IsSet marks i × (slice_get before i ≡ Some false)
+  pub found : (i : ℕ) → i < count → IsSet marks i → slice_get before i ≡ Some false → IsSet fresh i
 
 -- the kept ones of the first assumptions are there
 pub record HasAssumes (net : Netlist) (table : List (Option ℕ)) (old new : Netlist) (count : ℕ) : Type 0 where

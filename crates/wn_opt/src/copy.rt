@@ -1,10 +1,11 @@
 //! The needed nodes, behind those of inputs and registers.
-ghost use Rattle.std.specs.Prelude.{◌≡◌, ◌+◌, ◌++◌, ◌∷◌, [], Some, length, slice_get, IfOk, OnOk};
+ghost use Rattle.std.specs.Prelude.{◌≡◌, ◌+◌, None, Some, length, slice_get, slice_set, IfOk, OnOk};
 ghost use Rattle.wn_net.specs.Net.{IsNet};
 ghost use Rattle.wn_opt.specs.Needed.{operands};
 ghost use Rattle.wn_opt.specs.Cone as spec;
 ghost use Rattle.wn_opt.specs.Marks.{AreClosed, IsSet};
-ghost use Rattle.wn_opt.specs.Parts.{AreCopied, ArePlaced, HasParts, IsFrame};
+ghost use Rattle.wn_opt.specs.Cone.{KeepsPlaces};
+ghost use Rattle.wn_opt.specs.Parts.{AddsBehind, AreCopied, AreCopiedTo, ArePlaced, HasNoPlaces, IsFront};
 
 use crate::build::build;
 use fv_text::Memory;
@@ -49,6 +50,18 @@ pub(crate) fn renamed(places: &[Option<NodeId>], node: &Node) -> Node
     }
 }
 
+/// New numbers of so many nodes, of which none has one yet.
+pub(crate) fn no_places(alloc: Global, count: usize) -> Result<Vec<Option<NodeId>>, Memory>
+    ensures none { IfOk result (λ places. HasNoPlaces places.items) }
+    ensures each { IfOk result (λ places. length places.items ≡ count) }
+{
+    let mut places = Vec::with_capacity(alloc, count)?;
+    'nodes: while places.len() < count {
+        places.push(None)?;
+    }
+    Ok(places)
+}
+
 /// The number of the node of a register, which stands behind those of the inputs.
 fn reg_place(net: &Net, reg: u32) -> NodeId
     ensures { result ≡ length net.now.inputs + reg }
@@ -56,22 +69,25 @@ fn reg_place(net: &Net, reg: u32) -> NodeId
     net.inputs().len() as u64 + u64::from(reg)
 }
 
-/// The new node of a marked one.
+/// The new node of a marked one that has none yet.
 fn copy_node(
     part: &mut Net,
     net: &Net,
     marks: &[bool],
     places: &[Option<NodeId>],
+    index: usize,
     node: &Node,
 ) -> Result<NodeId, Memory>
     requires whole { IsNet net.now }
-    requires frame { IsFrame net.now part.old }
-    requires copied { AreCopied net.now marks.now part.old places.now }
-    requires at { slice_get net.now.nodes (length places.now) ≡ Some node.now }
-    requires marked { IsSet marks.now (length places.now) }
+    requires front { IsFront net.now part.old }
+    requires copied { AreCopiedTo net.now marks.now part.old places.now index }
+    requires at { slice_get net.now.nodes index ≡ Some node.now }
+    requires marked { IsSet marks.now index }
+    requires free { slice_get places.now index ≡ Some None }
     requires operands { ArePlaced places.now (operands node.now) }
-    ensures frame { OnOk result (IsFrame net.now part.new) }
-    ensures copied { IfOk result (λ at. AreCopied net.now marks.now part.new (places.now ++ Some at ∷ [])) }
+    ensures adds { OnOk result (AddsBehind part.old part.new) }
+    ensures copied { IfOk result (λ at.
+        AreCopiedTo net.now marks.now part.new (slice_set places.now index (Some at)) (index + 1)) }
 {
     match *node {
         Node::Input(input) => Ok(u64::from(input)),
@@ -80,48 +96,57 @@ fn copy_node(
     }
 }
 
-/// The new number of the next node, None where it isn't marked.
+/// Gives the next node a new number, where it is marked and has none yet.
 fn copy_next(
     part: &mut Net,
     net: &Net,
     marks: &[bool],
-    places: &[Option<NodeId>],
+    places: &mut Vec<Option<NodeId>>,
+    index: usize,
     node: &Node,
-) -> Result<Option<NodeId>, Memory>
+) -> Result<(), Memory>
     requires whole { IsNet net.now }
-    requires frame { IsFrame net.now part.old }
-    requires copied { AreCopied net.now marks.now part.old places.now }
+    requires front { IsFront net.now part.old }
+    requires copied { AreCopiedTo net.now marks.now part.old places.old.items index }
     requires closed { AreClosed net.now marks.now }
     requires each { length marks.now ≡ length net.now.nodes }
-    requires at { slice_get net.now.nodes (length places.now) ≡ Some node.now }
-    ensures frame { OnOk result (IsFrame net.now part.new) }
-    ensures copied { IfOk result (λ o. AreCopied net.now marks.now part.new (places.now ++ o ∷ [])) }
+    requires all { length places.old.items ≡ length net.now.nodes }
+    requires at { slice_get net.now.nodes index ≡ Some node.now }
+    ensures adds { OnOk result (AddsBehind part.old part.new) }
+    ensures copied { OnOk result (AreCopiedTo net.now marks.now part.new places.new.items (index + 1)) }
+    ensures all { OnOk result (length places.new.items ≡ length net.now.nodes) }
+    ensures kept { OnOk result (KeepsPlaces places.old.items places.new.items) }
 {
-    if marks[places.len()] {
-        let id = copy_node(part, net, marks, places, node)?;
-        return Ok(Some(id));
+    if !marks[index] {
+        return Ok(());
     }
-    Ok(None)
+    if places[index].is_some() {
+        return Ok(());
+    }
+    let at = copy_node(part, net, marks, places.as_slice(), index, node)?;
+    places[index] = Some(at);
+    Ok(())
 }
 
-/// The new numbers of the marked nodes.
+/// Gives the marked nodes that have no new numbers yet new ones, behind those that are there.
 pub(crate) fn copy_nodes(
-    alloc: Global,
     part: &mut Net,
     net: &Net,
     marks: &[bool],
-) -> Result<Vec<Option<NodeId>>, Memory>
-    requires parts { HasParts net.now part.old (length net.now.inputs) (length net.now.regs) (length net.now.mems) }
+    places: &mut Vec<Option<NodeId>>,
+) -> Result<(), Memory>
+    requires front { IsFront net.now part.old }
+    requires copied { AreCopiedTo net.now marks.now part.old places.old.items 0 }
     requires closed { AreClosed net.now marks.now }
     requires each { length marks.now ≡ length net.now.nodes }
-    ensures frame { OnOk result (IsFrame net.now part.new) }
-    ensures copied { IfOk result (λ t. AreCopied net.now marks.now part.new t.items) }
-    ensures all { IfOk result (λ t. length t.items ≡ length net.now.nodes) }
+    requires all { length places.old.items ≡ length net.now.nodes }
+    ensures adds { OnOk result (AddsBehind part.old part.new) }
+    ensures copied { OnOk result (AreCopied net.now marks.now part.new places.new.items) }
+    ensures all { OnOk result (length places.new.items ≡ length net.now.nodes) }
+    ensures kept { OnOk result (KeepsPlaces places.old.items places.new.items) }
 {
-    let mut places = Vec::with_capacity(alloc, net.nodes().len())?;
-    for node in net.nodes() {
-        let place = copy_next(part, net, marks, places.as_slice(), node)?;
-        places.push(place)?;
+    for (index, node) in net.nodes().iter().enumerate() {
+        copy_next(part, net, marks, places, index, node)?;
     }
-    Ok(places)
+    Ok(())
 }

@@ -3,8 +3,8 @@ ghost use Rattle.std.specs.Prelude.{◌≡◌, ℕ, ◌<◌, ◌^◌, ◌++◌, 
 ghost use Rattle.wn_net.specs.Net.{IsNode, IsNodeOf};
 ghost use Rattle.wn_net.specs.Changes.{Keeps, mem_width, reg_width, with_next};
 ghost use Rattle.wn_opt.specs.Cone as spec;
-ghost use Rattle.wn_opt.specs.Parts.{AddsWrites, AreCopied, AreMemsPlaced, AreNextsPlaced, AreWritesFit};
-ghost use Rattle.wn_opt.specs.Parts.{HasAssumes, HasNexts, HasWrites, IsFrame, without_writes};
+ghost use Rattle.wn_opt.specs.Parts.{AddsWrites, AreBare, AreCopied, AreMemsPlaced, AreNextsPlaced, AreWritesFit};
+ghost use Rattle.wn_opt.specs.Parts.{HasAssumes, HasNexts, HasRegs, HasWrites};
 
 use crate::copy::place;
 use fv_text::Memory;
@@ -35,7 +35,7 @@ pub(crate) fn join_regs(
     marks: &[bool],
     places: &[Option<NodeId>],
 )
-    requires frame { IsFrame net.now part.old }
+    requires regs { HasRegs net.now part.old }
     requires copied { AreCopied net.now nodes.now part.old places.now }
     requires placed { AreNextsPlaced net.now marks.now places.now }
     requires each { length marks.now ≡ length net.now.regs }
@@ -104,7 +104,7 @@ pub(crate) fn join_mems(
     marks: &[bool],
     places: &[Option<NodeId>],
 ) -> Result<(), Memory>
-    requires mems { part.old.mems ≡ map without_writes net.now.mems }
+    requires bare { AreBare net.now marks.now part.old }
     requires copied { AreCopied net.now nodes.now part.old places.now }
     requires placed { AreMemsPlaced net.now marks.now places.now }
     requires each { length marks.now ≡ length net.now.mems }

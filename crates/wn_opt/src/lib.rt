@@ -1,10 +1,11 @@
 //! Nets in which equal nodes are one, and the part of a net on which some nodes rest.
 //!
 //! - Builders that answer one number for equal nodes, fold constants, and fold operators of equal operands.
-//! - The part of a net on which some nodes rest.
+//! - The part of a net on which some nodes rest, and such a part grown by what one more node rests on.
 //! - A net without registers and memories once more, with equal nodes once, and the inputs alone that are read.
 #![tactic(auto)]
 
+mod behind;
 mod build;
 mod copy;
 mod fold;
@@ -25,6 +26,7 @@ mod share;
 mod table;
 mod top;
 
+pub use behind::cone_behind;
 pub use copy::place;
 pub use hashed::Hashed;
 pub use law::equal_calls_answer_one_number;

@@ -3,7 +3,7 @@ ghost use Rattle.std.specs.Prelude.{IfOk};
 ghost use Rattle.wn_net.specs.Net.{AreNodes};
 ghost use Rattle.wn_opt.specs.Cone.{IsCone, KeepsRuns};
 
-use crate::copy::copy_nodes;
+use crate::copy::{copy_nodes, no_places};
 use crate::frame::frame;
 use crate::join::{join_assumes, join_mems, join_regs};
 use crate::kept::whole;
@@ -31,7 +31,8 @@ pub fn cone(
     let marks = needed(alloc, net, roots)?;
     let mut part = frame(alloc, net)?;
     let nodes = marks.nodes.as_slice();
-    let table = copy_nodes(alloc, &mut part, net, nodes)?;
+    let mut table = no_places(alloc, net.nodes().len())?;
+    copy_nodes(&mut part, net, nodes, &mut table)?;
     let places = table.as_slice();
     join_regs(&mut part, net, nodes, marks.regs.as_slice(), places);
     join_mems(&mut part, net, nodes, marks.mems.as_slice(), places)?;

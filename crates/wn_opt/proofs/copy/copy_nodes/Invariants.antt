@@ -1,10 +1,12 @@
 use Rattle.std.proofs.Common.{◌≡◌, length}
-use Rattle.wn_opt.specs.Parts.{AreCopied, IsFrame}
+use Rattle.wn_opt.specs.Cone.{KeepsPlaces}
+use Rattle.wn_opt.specs.Parts.{AddsBehind, AreCopiedTo}
 use Rattle.wn_opt.proofs.copy.copy_nodes.Given as goal
 
-abbrev pub invariant-loop-node : goal.invariant-loop-node
-invariant-loop-node l = record {
-  frame : IsFrame l.net l.part;
-  copied : AreCopied l.net l.marks l.part l.places.items;
-  each : length l.places.items ≡ l.node-index;
+abbrev pub invariant-loop-index : goal.invariant-loop-index
+invariant-loop-index l = record {
+  adds : AddsBehind l.initial.part l.part;
+  copied : AreCopiedTo l.net l.marks l.part l.places.items l.index;
+  all : length l.places.items ≡ length l.net.nodes;
+  kept : KeepsPlaces l.initial.places.items l.places.items;
 }
