@@ -9,7 +9,7 @@
 //! | `word insn=N`, `number row=N` | the name of the row that the word matches, or that has the number |
 //! | `match row=N insn=N` | whether the word `matches` the row, or `another` one |
 //! | `expand half=N` | the word that the half word stands for |
-//! | `hit` with a row, channel and cycle, or `any` with a cycle, and retirements | whether the node shows it `reached` |
+//! | `hit` with a row, channel and cycle, or `any` with a cycle, and retirements | whether it is shown `reached` |
 //!
 //! A check is judged by its property, and by its monitor in a net whose inputs play the run. Where these differ, both
 //! answers are given. Where a check has no monitor (it isn't lawful) its property alone is judged. Where a number has

@@ -12,8 +12,8 @@ use std::alloc::Global;
 use wn_chain::Chain;
 use wn_net::{MemWrite, Net, NodeId};
 
-/// The nodes that the words of a part name, from the fourth word on; None where there is none, or one isn't there or has
-/// another width.
+/// The nodes that the words of a part name, from the fourth word on; None where there is none, or one isn't there or
+/// has another width.
 fn nodes_of(
     alloc: Global,
     net: &Net,

@@ -12,10 +12,10 @@
 //! | `reg WIDTH INIT`, `next REGISTER A` | a register that begins with a number or `free`, and its next value |
 //! | `mem WIDTH INIT ..`, `write MEMORY ENABLE ADDR MASK VALUE` | a memory of as many words, and a write to it |
 //! | `assume A` | an assumption |
-//! | `chain MEMORY A NODE ..` | as the last node, the word at `A` of words that are these nodes, behind the writes to the memory |
+//! | `chain MEMORY A NODE ..` | as the last node, the word at `A` of these words behind the writes to the memory |
 //! | `copy` | a copy of the net, which the rest of the line is about |
 //! | `share` | its nodes once more, equal ones once, which the rest is about; answers the new number of each |
-//! | `cone A ..` | the part on which these nodes rest, which the rest is about; answers the new number of each, or `-` |
+//! | `cone A ..` | the part on which these nodes rest, which the rest is about; answers new numbers, or `-` |
 //! | `regs NUMBER ..`, `words NUMBER ..` | the numbers of the registers, and of the words of one memory more |
 //!
 //! | part | what it asks |

@@ -44,8 +44,8 @@ pub record IsRefuted (IsOne IsSought : List Values → Type 0) (more : ℕ → C
   pub read_back : Fits formula → SayBoth formula steps texts
 
 -- The budget is used up. The texts hold such clauses, and steps that derive from them as many clauses as the budget,
--- each a resolvent of its hints and new to unit propagation, none of them empty; this takes so many variables. The files are
--- read back as they were meant.
+-- each a resolvent of its hints and new to unit propagation, none of them empty; this takes so many variables. The
+-- files are read back as they were meant.
 pub record IsExhausted (IsOne IsSought : List Values → Type 0) (budget : ℕ) (texts : CertificateTexts)
     : Type 0 where
   pub notes : List Note

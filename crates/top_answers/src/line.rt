@@ -27,7 +27,7 @@ pub enum Line<'a> {
     RunWithNames(&'a str),
     /// `* N TEXT`: the text so many times, without an end of its line.
     Repeat(u64, &'a str),
-    /// `+ N M TEXT`: the text once for each number from N to M, which stands at each `#` of it; at each `|` a line ends.
+    /// `+ N M TEXT`: the text once for each number from N to M, which stands at each `#`; a line ends at each `|`.
     Numbered(u64, u64, &'a str),
     /// `.`: the files go.
     End,
